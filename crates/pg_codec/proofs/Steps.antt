@@ -11,7 +11,7 @@ use Rattle.pg_codec.specs.declared.stream.Source.{Ghosts}
 use Rattle.pg_event.specs.declared.version.Version.{Version}
 use Rattle.pg_event.specs.declared.version.Version.TheVariants as versions
 use Rattle.pg_codec.specs.Reads.{left_of, is_device, Reads, Took, Pulls, Prepares, Finds, FindsEnd}
-use Rattle.pg_codec.specs.Parts.{settings_at, head_of, version_said, is_two}
+use Rattle.pg_codec.specs.Parts.{cfg_at, settings_behind, settings_at, head_of, version_said, is_two}
 use Rattle.pg_codec.proofs.Local.{IsLocal, extended, near, then_local}
 use Rattle.pg_codec.proofs.Widths.{magic_local, version_local}
 use Rattle.pg_codec.proofs.Going.{took_then, device_after}
@@ -140,5 +140,5 @@ in_turn (Err e) f g = refl
 
 -- a header is its settings, and then its processors
 pub header_in_parts : (bytes : List ℕ) → (settings_at bytes >>= λ s. starts_at s.0.cfg.m s.0.count s.1 >>= λ starts. Ok (head_of s.0 starts.0, starts.1)) ≡ header_at bytes
-unfolding settings_at header_at
+unfolding settings_at settings_behind cfg_at header_at
 header_in_parts bytes = simp in_turn

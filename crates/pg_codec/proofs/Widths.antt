@@ -16,7 +16,7 @@ use Rattle.pg_event.specs.Heads.{Head, most_processors}
 use Rattle.pg_event.specs.Form.{broken_rule}
 use Rattle.std.specs.Str.{bytes_eq}
 use Rattle.pg_event.specs.Reading.{◌>>=◌, byte_at, number_at, passing, magic_at, start_at, outcome_at, numbers_at, moments_at, write_at, access_at, mov_cr3_at, invlpg_at, invpcid_at, mov_cr4_pge_at, assist_at, fields_at, last_tag, well_formed_at, event_at, is_between, version_at, version_of, processor_at}
-use Rattle.pg_codec.specs.Parts.{settings_at}
+use Rattle.pg_codec.specs.Parts.{cfg_at, settings_behind, settings_at}
 use Rattle.pg_codec.proofs.Local.{IsLocal, extended, byte_local, number_local, done_local, refused_local, then_local, wider, cond_local, bounded_local, made_local, done, ok_is}
 
 outcome_local : IsLocal 9 outcome_at
@@ -143,12 +143,21 @@ unfolding version_at
 version_local =
     bounded_local 2 0 (λ n. eqb n 1 || eqb n 2) refusals.Version (number_at w16) (λ n bytes. Ok (version_of n, bytes)) (number_local w16) (λ n _. done_local (version_of n))
 
+cfg_local : IsLocal 2 cfg_at
+unfolding cfg_at
+cfg_local =
+    bounded_local 1 1 (is_between 36 52) refusals.HeaderField byte_at _ byte_local (λ m _.
+    bounded_local 1 0 (λ n. ltb n 16) refusals.HeaderField byte_at _ byte_local (λ flags _. done_local _))
+
+behind_local : (version : Version) → IsLocal 8 (settings_behind version)
+unfolding settings_behind
+behind_local version =
+    then_local 2 6 cfg_at _ cfg_local (λ cfg.
+    bounded_local 2 4 (is_between 1 (most_processors version)) refusals.HeaderField (processor_at version) _ (processor_local version) (λ count _.
+    bounded_local 4 0 (is_between 1 65536) refusals.HeaderField (number_at w32) _ (number_local w32) (λ size _. done_local _)))
+
 pub settings_local : IsLocal 18 settings_at
 unfolding settings_at
 settings_local =
     then_local 8 10 magic_at _ magic_local (λ magic.
-    then_local 2 8 version_at _ version_local (λ version.
-    bounded_local 1 7 (is_between 36 52) refusals.HeaderField byte_at _ byte_local (λ m _.
-    bounded_local 1 6 (λ n. ltb n 16) refusals.HeaderField byte_at _ byte_local (λ flags _.
-    bounded_local 2 4 (is_between 1 (most_processors version)) refusals.HeaderField (processor_at version) _ (processor_local version) (λ count _.
-    bounded_local 4 0 (is_between 1 65536) refusals.HeaderField (number_at w32) _ (number_local w32) (λ size _. done_local _))))))
+    then_local 2 8 version_at (λ version bytes. settings_behind version bytes) version_local behind_local)

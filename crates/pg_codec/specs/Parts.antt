@@ -2,6 +2,7 @@
 use Rattle.std.specs.Prelude.{ℕ, ◌≤◌, ◌<◌, Bool, nat_lt, if◌then◌else◌, List, ◌++◌, Option, Ok, Err}
 use Rattle.std.specs.Prelude.{true, false}
 use Rattle.std.specs.Int.{w32}
+use Rattle.pg_entry.specs.declared.Cfg.{Cfg}
 use Rattle.pg_event.specs.declared.refusal.Refusal.TheVariants as refusals
 use Rattle.pg_event.specs.declared.event.Event.{Event}
 use Rattle.pg_event.specs.declared.version.Version.{Version}
@@ -16,26 +17,37 @@ use Rattle.pg_codec.specs.declared.settings.Settings.{Settings}
 abbrev pub with_front : {A : Type 0} → List A → Part (List A) → Part (List A)
 with_front front part = part >>= λ x. Ok (front ++ x.0, x.1)
 
--- a header up to its processors
-unfoldable pub settings_at : List ℕ → Part Settings
-settings_at bytes = do
-  magic ← magic_at bytes
-  version ← version_at magic.1
-  m ← passing (is_between least_maxphyaddr most_maxphyaddr) refusals.HeaderField (byte_at version.1)
+-- the settings of the processors
+unfoldable pub cfg_at : List ℕ → Part Cfg
+cfg_at bytes = do
+  m ← passing (is_between least_maxphyaddr most_maxphyaddr) refusals.HeaderField (byte_at bytes)
   flags ← passing (λ n. nat_lt n 16) refusals.HeaderField (byte_at m.1)
+  Ok (record { flags = record { 0 = flags.0 }; m = m.0 }, flags.1)
+
+-- a header after its version, up to its processors
+unfoldable pub settings_behind : Version → List ℕ → Part Settings
+settings_behind version bytes = do
+  cfg ← cfg_at bytes
   count ←
-      passing (is_between 1 (most_processors version.0)) refusals.HeaderField
-      (processor_at version.0 flags.1)
+      passing (is_between 1 (most_processors version)) refusals.HeaderField
+      (processor_at version cfg.1)
   size ← passing (is_between 1 most_segment) refusals.HeaderField (number_at w32 count.1)
   Ok (
     record {
-      version = version.0;
-      cfg = record { flags = record { 0 = flags.0 }; m = m.0 };
+      version = version;
+      cfg = cfg.0;
       count = count.0;
       segment = size.0;
     },
     size.1,
   )
+
+-- a header up to its processors
+unfoldable pub settings_at : List ℕ → Part Settings
+settings_at bytes = do
+  magic ← magic_at bytes
+  version ← version_at magic.1
+  settings_behind version.0 version.1
 
 -- the version that the bytes of a record say
 abbrev pub version_said : List ℕ → Part Version
@@ -50,6 +62,12 @@ is_two (Err e) = false
 abbrev pub old_header_at : List ℕ → Part Head
 old_header_at bytes =
     if is_two (version_said bytes) then Err refusals.Version else header_at bytes
+
+-- MAXPHYADDR and the flags are within their ranges
+pub record IsCfg (cfg : Cfg) : Type 0 where
+  pub low : least_maxphyaddr ≤ cfg.m
+  pub high : cfg.m ≤ most_maxphyaddr
+  pub flags : cfg.flags.0 < 16
 
 -- each field is within its range
 pub record AreSettings (s : Settings) : Type 0 where

@@ -3,10 +3,11 @@ use pg_event::Version;
 
 /// A header without its processors.
 #[derive(Clone, Copy)]
-pub(crate) struct Settings {
-    pub(crate) version: Version,
-    pub(crate) cfg: Cfg,
+pub struct Settings {
+    pub version: Version,
+    pub cfg: Cfg,
     /// How many processors follow.
-    pub(crate) count: u16,
-    pub(crate) segment: u32,
+    pub count: u16,
+    /// The events of a full segment.
+    pub segment: u32,
 }

@@ -12,15 +12,18 @@ use Rattle.pg_event.specs.declared.version.Version.{Version}
 use Rattle.pg_event.specs.declared.version.Version.TheVariants as versions
 use Rattle.pg_event.specs.Heads.{Head}
 use Rattle.pg_event.specs.Spelling.{version_number, processor_bytes, start_bytes, header_bytes, IsHead}
-use Rattle.pg_event.specs.Reading.{number_at, magic_at, version_at, header_at}
+use Rattle.pg_event.specs.Reading.{◌>>=◌, Part, number_at, magic_at, version_at, starts_at, header_at}
 use Rattle.pg_event.specs.Laws.{AreBytes}
 use Rattle.pg_event.proofs.Fields.{IsBytes, IsBytes-drop, from_bind, from_passing, ok_bind, ok_is, test_ok, Takes, Takes-then, passing_again, wide16, number_takes, number_again}
 use Rattle.pg_event.proofs.Chunks.{all_append}
 use Rattle.pg_event.proofs.Headers.{header_again, header_takes}
 use Rattle.pg_event.proofs.Spellings.{bytes_at}
+use Rattle.pg_codec.specs.declared.settings.Settings.{Settings}
+use Rattle.pg_codec.specs.Parts.{settings_behind, settings_at, head_of}
 use Rattle.pg_codec.proofs.Next.{all_bytes}
+use Rattle.pg_codec.proofs.Steps.{header_in_parts}
 use Rattle.pg_span_codec.specs.Spelling.{spans_number, spans_header_bytes}
-use Rattle.pg_span_codec.specs.Reading.{spans_version_of, spans_version_at, spans_front_at, settings_behind, spans_header_at}
+use Rattle.pg_span_codec.specs.Reading.{spans_version_of, spans_version_at, spans_front_at, header_behind, spans_header_at}
 
 -- ---- the magic and the version
 
@@ -98,10 +101,16 @@ abbrev settings_tail : Head → List ℕ
 settings_tail head =
     head.cfg.m ∷ head.cfg.flags.0 ∷ (processor_bytes head.version (length head.processors) ++ (to_le_bytes w32 head.segment ++ flat_map start_bytes head.processors))
 
+as_settings : (version : Version) (bytes : List ℕ) → settings_at (codes "PGRECORD" ++ (to_le_bytes w16 (version_number version) ++ bytes)) ≡ settings_behind version bytes
+unfolding settings_at
+as_settings version bytes = ok_bind _ _ _ (magic_again (to_le_bytes w16 (version_number version) ++ bytes)) ∙ ok_bind _ _ _ (version_again version bytes)
+
 -- what follows the version is read as in a header of version 1 or 2
-as_header : (version : Version) (bytes : List ℕ) → header_at (codes "PGRECORD" ++ (to_le_bytes w16 (version_number version) ++ bytes)) ≡ settings_behind version bytes
-unfolding header_at settings_behind
-as_header version bytes = ok_bind _ _ _ (magic_again (to_le_bytes w16 (version_number version) ++ bytes)) ∙ ok_bind _ _ _ (version_again version bytes)
+as_header : (version : Version) (bytes : List ℕ) → header_at (codes "PGRECORD" ++ (to_le_bytes w16 (version_number version) ++ bytes)) ≡ header_behind version bytes
+unfolding header_behind
+as_header version bytes =
+    sym (header_in_parts (codes "PGRECORD" ++ (to_le_bytes w16 (version_number version) ++ bytes)))
+    ∙ ap (λ (part : Part Settings). part >>= λ s. starts_at s.0.cfg.m s.0.count s.1 >>= λ starts. Ok (head_of s.0 starts.0, starts.1)) (as_settings version bytes)
 
 old_in_parts : (version : Version) (m flags count size : ℕ) (starts : List ℕ)
     → codes "PGRECORD" ++ to_le_bytes w16 (version_number version) ++ (m ∷ flags ∷ []) ++ processor_bytes version count ++ to_le_bytes w32 size ++ starts
@@ -121,7 +130,7 @@ old_header head = old_in_parts head.version head.cfg.m head.cfg.flags.0 (length 
 new_header : (head : Head) → spans_header_bytes head ≡ codes "PGRECORD" ++ (to_le_bytes w16 (spans_number head.version) ++ settings_tail head)
 new_header head = new_in_parts head.version head.cfg.m head.cfg.flags.0 (length head.processors) head.segment (flat_map start_bytes head.processors)
 
-settings_again : (head : Head) (rest : List ℕ) → IsHead head → settings_behind head.version (settings_tail head ++ rest) ≡ Ok (head, rest)
+settings_again : (head : Head) (rest : List ℕ) → IsHead head → header_behind head.version (settings_tail head ++ rest) ≡ Ok (head, rest)
 settings_again head rest is =
     sym (as_header head.version (settings_tail head ++ rest))
     ∙ ap (λ (w : List ℕ). header_at (w ++ rest)) (sym (old_header head))
@@ -138,7 +147,7 @@ front_fits : (version : Version) → AreBytes (codes "PGRECORD" ++ to_le_bytes w
 front_fits versions.One = (omega arith, (omega arith, (omega arith, (omega arith, (omega arith, (omega arith, (omega arith, (omega arith, (omega arith, (omega arith, tt))))))))))
 front_fits versions.Two = (omega arith, (omega arith, (omega arith, (omega arith, (omega arith, (omega arith, (omega arith, (omega arith, (omega arith, (omega arith, tt))))))))))
 
-settings_take : (version : Version) (bytes : List ℕ) (x : Head × List ℕ) → IsBytes bytes → settings_behind version bytes ≡ Ok x → Takes bytes (settings_tail x.0) x.1 × IsHead x.0 × (version ≡ x.0.version)
+settings_take : (version : Version) (bytes : List ℕ) (x : Head × List ℕ) → IsBytes bytes → header_behind version bytes ≡ Ok x → Takes bytes (settings_tail x.0) x.1 × IsHead x.0 × (version ≡ x.0.version)
 settings_take version bytes x fits e =
     let all : List ℕ = codes "PGRECORD" ++ (to_le_bytes w16 (version_number version) ++ bytes) in
     let all_fit : IsBytes all = bytes_at all (all_append (λ (b : ℕ). b < 256) (codes "PGRECORD" ++ to_le_bytes w16 (version_number version)) bytes (front_fits version) (all_bytes bytes fits)) in

@@ -5,6 +5,7 @@ use Rattle.std.specs.List.{AllByRecursion}
 use Rattle.std.specs.Int.{w16, w32, w64, to_le_bytes}
 use Rattle.std.specs.Str.{bytes_eq}
 use Rattle.std.proofs.lemmas.Bool.{and_parts, ltb-true, eqb-true}
+use Rattle.pg_entry.specs.declared.Cfg.{Cfg}
 use Rattle.pg_event.specs.declared.event.Event.{Event}
 use Rattle.pg_event.specs.declared.event.Malformed.{Malformed}
 use Rattle.pg_event.specs.declared.refusal.Refusal.{Refusal}
@@ -22,6 +23,7 @@ use Rattle.pg_event.proofs.Spellings.{bytes_at}
 use Rattle.pg_codec.proofs.Next.{all_bytes}
 use Rattle.pg_codec.specs.declared.naming.Naming.TheVariants as namings
 use Rattle.pg_codec.specs.Bare.{IsBare, fields_in, event_in}
+use Rattle.pg_codec.specs.Parts.{cfg_at, IsCfg}
 use Rattle.pg_span_codec.specs.Reading.{timed_at}
 use Rattle.pg_span_codec.proofs.TimedEvents.{chosen, timed_takes}
 use Rattle.pg_span_codec.specs.declared.log.LogHeader.{LogHeader}
@@ -198,36 +200,45 @@ start_read m bytes x fits e =
     let made : (ℕ × Bool) × List ℕ = ((a.0, eqb b.0 1), b.1) in
     subst (λ (y : (ℕ × Bool) × List ℕ). (y.0.0 < 2 ^ m) × IsBytes y.1) (ok_is made x e) (ltb-true _ _ low, t1.0.rest_fits)))
 
+cfg_read : (bytes : List ℕ) (x : Cfg × List ℕ) → IsBytes bytes → cfg_at bytes ≡ Ok x → IsCfg x.0 × IsBytes x.1
+unfolding cfg_at
+cfg_read bytes x fits e =
+    from_passing (is_between least_maxphyaddr most_maxphyaddr) refusals.HeaderField (byte_at bytes) _ x e (λ m m_is m_in e.
+    from_passing (λ n. ltb n 16) refusals.HeaderField (byte_at m.1) _ x e (λ flags flags_is flags_in e.
+    let t0 = byte_takes bytes m fits m_is in
+    let t1 = byte_takes m.1 flags t0.0.rest_fits flags_is in
+    let width = bounds_of least_maxphyaddr m.0 most_maxphyaddr m_in in
+    let cfg : Cfg = record { flags = record { 0 = flags.0 }; m = m.0 } in
+    let is : IsCfg cfg = record { low = width.0; high = width.1; flags = ltb-true _ _ flags_in } in
+    subst (λ (y : Cfg × List ℕ). IsCfg y.0 × IsBytes y.1) (ok_is (cfg, flags.1) x e) (is, t1.0.rest_fits)))
+
 header_read : (bytes : List ℕ) (x : LogHeader × List ℕ) → IsBytes bytes → log_header_at bytes ≡ Ok x → AreLogSettings x.0 × IsBytes x.1
 unfolding log_header_at
 header_read bytes x fits e =
     from_bind (log_magic_at bytes) _ x e (λ magic magic_is e.
     from_bind (version_at magic.1) _ x e (λ version version_is e.
-    from_passing (is_between least_maxphyaddr most_maxphyaddr) refusals.HeaderField (byte_at version.1) _ x e (λ m m_is m_in e.
-    from_passing (λ n. ltb n 16) refusals.HeaderField (byte_at m.1) _ x e (λ flags flags_is flags_in e.
-    from_passing (is_between 1 (most_processors version.0)) refusals.HeaderField (number_at w16 flags.1) _ x e (λ count count_is count_in e.
+    from_bind (cfg_at version.1) _ x e (λ cfg cfg_is e.
+    from_passing (is_between 1 (most_processors version.0)) refusals.HeaderField (number_at w16 cfg.1) _ x e (λ count count_is count_in e.
     from_passing (λ n. ltb n count.0) refusals.HeaderField (number_at w16 count.1) _ x e (λ own own_is own_in e.
-    from_bind (start_at m.0 own.1) _ x e (λ start start_is e.
+    from_bind (start_at cfg.0.m own.1) _ x e (λ start start_is e.
     let t0 = magic_rest bytes magic fits magic_is in
     let t1 = version_rest magic.1 version t0 version_is in
-    let t2 = byte_takes version.1 m t1 m_is in
-    let t3 = byte_takes m.1 flags t2.0.rest_fits flags_is in
-    let t4 = number_takes w16 (2 ^ 16) wide16 flags.1 count t3.0.rest_fits count_is in
-    let t5 = number_takes w16 (2 ^ 16) wide16 count.1 own t4.0.rest_fits own_is in
-    let t6 = start_read m.0 own.1 start t5.0.rest_fits start_is in
-    let width = bounds_of least_maxphyaddr m.0 most_maxphyaddr m_in in
+    let t2 = cfg_read version.1 cfg t1 cfg_is in
+    let t3 = number_takes w16 (2 ^ 16) wide16 cfg.1 count t2.1 count_is in
+    let t4 = number_takes w16 (2 ^ 16) wide16 count.1 own t3.0.rest_fits own_is in
+    let t5 = start_read cfg.0.m own.1 start t4.0.rest_fits start_is in
     let several = bounds_of 1 count.0 (most_processors version.0) count_in in
-    let head : LogHeader = record { version = version.0; cfg = record { flags = record { 0 = flags.0 }; m = m.0 }; processors = count.0; own = own.0; start = start.0 } in
+    let head : LogHeader = record { version = version.0; cfg = cfg.0; processors = count.0; own = own.0; start = start.0 } in
     let settings : AreLogSettings head = record {
-      low = width.0;
-      high = width.1;
-      flags = ltb-true _ _ flags_in;
+      low = t2.0.low;
+      high = t2.0.high;
+      flags = t2.0.flags;
       some = several.0;
       few = several.1;
       own = ltb-true _ _ own_in;
-      start = t6.0;
+      start = t5.0;
     } in
-    subst (λ (y : LogHeader × List ℕ). AreLogSettings y.0 × IsBytes y.1) (ok_is (head, start.1) x e) (settings, t6.1))))))))
+    subst (λ (y : LogHeader × List ℕ). AreLogSettings y.0 × IsBytes y.1) (ok_is (head, start.1) x e) (settings, t5.1)))))))
 
 -- ---- logs
 

@@ -7,12 +7,13 @@ use Rattle.std.specs.Str.{bytes_eq}
 use Rattle.std.specs.Int.{w16, w64}
 use Rattle.pg_event.specs.declared.event.Event.{Event}
 use Rattle.pg_event.specs.declared.refusal.Refusal.TheVariants as refusals
-use Rattle.pg_event.specs.Heads.{Head, most_processors, least_maxphyaddr, most_maxphyaddr}
+use Rattle.pg_event.specs.Heads.{Head, most_processors}
 use Rattle.pg_event.specs.Form.{processor_of}
-use Rattle.pg_event.specs.Reading.{◌>>=◌, Part, byte_at, number_at, passing, is_between}
+use Rattle.pg_event.specs.Reading.{◌>>=◌, Part, number_at, passing, is_between}
 use Rattle.pg_event.specs.Reading.{version_at, start_at}
 use Rattle.pg_codec.specs.declared.naming.Naming.TheVariants.{Bare}
 use Rattle.pg_codec.specs.Bare.{event_in}
+use Rattle.pg_codec.specs.Parts.{cfg_at}
 use Rattle.pg_span_codec.specs.declared.log.LogHeader.{LogHeader}
 use Rattle.pg_span_codec.specs.declared.log.Stamped.{Stamped}
 use Rattle.pg_span_codec.specs.declared.log_error.LogRefusal.{LogRefusal}
@@ -38,17 +39,16 @@ unfoldable pub log_header_at : List ℕ → Part LogHeader
 log_header_at bytes = do
   magic ← log_magic_at bytes
   version ← version_at magic.1
-  m ← passing (is_between least_maxphyaddr most_maxphyaddr) refusals.HeaderField (byte_at version.1)
-  flags ← passing (λ n. nat_lt n 16) refusals.HeaderField (byte_at m.1)
+  cfg ← cfg_at version.1
   count ←
       passing (is_between 1 (most_processors version.0)) refusals.HeaderField
-      (number_at w16 flags.1)
+      (number_at w16 cfg.1)
   own ← passing (λ n. nat_lt n count.0) refusals.HeaderField (number_at w16 count.1)
-  start ← start_at m.0 own.1
+  start ← start_at cfg.0.m own.1
   Ok (
     record {
       version = version.0;
-      cfg = record { flags = record { 0 = flags.0 }; m = m.0 };
+      cfg = cfg.0;
       processors = count.0;
       own = own.0;
       start = start.0;

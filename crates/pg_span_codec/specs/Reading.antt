@@ -8,13 +8,13 @@ use Rattle.pg_event.specs.declared.event.Malformed.{Malformed}
 use Rattle.pg_event.specs.declared.refusal.Refusal.TheVariants as refusals
 use Rattle.pg_event.specs.declared.version.Version.{Version}
 use Rattle.pg_event.specs.declared.version.Version.TheVariants as versions
-use Rattle.pg_event.specs.Heads.{Head, most_processors, least_maxphyaddr, most_maxphyaddr}
-use Rattle.pg_event.specs.Heads.{most_segment}
+use Rattle.pg_event.specs.Heads.{Head}
 use Rattle.pg_event.specs.Form.{broken_rule}
 use Rattle.pg_event.specs.Reading.{◌>>=◌, Part, byte_at, number_at, passing, is_between, magic_at}
 use Rattle.pg_event.specs.Reading.{processor_at, starts_at, last_tag}
 use Rattle.pg_codec.specs.declared.naming.Naming.TheVariants.{Bare}
 use Rattle.pg_codec.specs.Bare.{fields_in}
+use Rattle.pg_codec.specs.Parts.{settings_behind, head_of}
 use Rattle.pg_spanned.specs.Orders.{Spanned}
 use Rattle.pg_span_codec.specs.declared.refusal.SpannedRefusal.{SpannedRefusal}
 use Rattle.pg_span_codec.specs.declared.refusal.SpannedRefusal.TheVariants.{Plain, Back}
@@ -42,29 +42,16 @@ unfoldable pub spans_front_at : List ℕ → Part Version
 spans_front_at bytes = magic_at bytes >>= λ magic. spans_version_at magic.1
 
 -- a header after its version
-unfoldable pub settings_behind : Version → List ℕ → Part Head
-settings_behind version bytes = do
-  m ← passing (is_between least_maxphyaddr most_maxphyaddr) refusals.HeaderField (byte_at bytes)
-  flags ← passing (λ n. nat_lt n 16) refusals.HeaderField (byte_at m.1)
-  count ←
-      passing (is_between 1 (most_processors version)) refusals.HeaderField
-      (processor_at version flags.1)
-  size ← passing (is_between 1 most_segment) refusals.HeaderField (number_at w32 count.1)
-  starts ← starts_at m.0 count.0 size.1
-  Ok (
-    record {
-      version = version;
-      cfg = record { flags = record { 0 = flags.0 }; m = m.0 };
-      segment = size.0;
-      processors = starts.0;
-    },
-    starts.1,
-  )
+unfoldable pub header_behind : Version → List ℕ → Part Head
+header_behind version bytes = do
+  settings ← settings_behind version bytes
+  starts ← starts_at settings.0.cfg.m settings.0.count settings.1
+  Ok (head_of settings.0 starts.0, starts.1)
 
 unfoldable pub spans_header_at : List ℕ → Part Head
 spans_header_at bytes = do
   version ← spans_front_at bytes
-  settings_behind version.0 version.1
+  header_behind version.0 version.1
 
 -- an event with its span
 unfoldable pub timed_at : Version → List ℕ → Part Timed

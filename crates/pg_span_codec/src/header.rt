@@ -3,34 +3,17 @@
 ghost use Rattle.std.specs.Prelude.{◌≡◌, ◌≤◌, ◌<◌, ◌^◌, length, IfOk};
 ghost use Rattle.std.specs.List.{AllByRecursion};
 ghost use Rattle.pg_event.specs.Spelling.{IsHead};
-ghost use Rattle.pg_event.specs.Reading.{magic_at, start_at, starts_at};
+ghost use Rattle.pg_event.specs.Reading.{starts_at};
 ghost use Rattle.pg_codec.specs.Reads.{Gives};
 ghost use Rattle.pg_span_codec.specs.Answers.{Answers};
 ghost use Rattle.pg_span_codec.specs.Reading.{plain, spans_version_at, spans_front_at};
-ghost use Rattle.pg_span_codec.specs.Reading.{settings_behind, spans_header_at};
+ghost use Rattle.pg_span_codec.specs.Reading.{header_behind, spans_header_at};
 ghost use Rattle.pg_span_codec.specs.Versions.{says_spans};
 
 use crate::error::SpannedError;
-use pg_codec::{byte_of, processor_number, u16_of, u32_of, u64_of};
-use pg_entry::{Cfg, CfgFlags};
-use pg_event::{
-    Header, LEAST_MAXPHYADDR, MOST_MAXPHYADDR, MOST_SEGMENT, Refusal, Version, most_processors,
-};
+use pg_codec::{magic_of, settings_after, start_of, u16_of};
+use pg_event::{Header, Refusal, Version};
 use std::alloc::Global;
-
-#[tactic(auto, unfolding(pg_event::specs::Reading::magic_at))]
-fn magic_of(bytes: &[u8]) -> Result<(&[u8], &[u8]), Refusal>
-    ensures { Gives (λ x. (x.0.now, x.1.now)) result (magic_at bytes.now) }
-{
-    if bytes.len() < 8 {
-        return Err(Refusal::Truncated);
-    }
-    let (front, rest) = bytes.split_at(8);
-    if front != b"PGRECORD".as_slice() {
-        return Err(Refusal::Magic);
-    }
-    Ok((front, rest))
-}
 
 #[tactic(auto, unfolding(crate::specs::Reading::spans_version_at))]
 fn version_of(bytes: &[u8]) -> Result<(Version, &[u8]), Refusal>
@@ -60,25 +43,6 @@ pub(crate) fn says_spans(bytes: &[u8]) -> bool
     front_of(bytes).is_ok()
 }
 
-/// The CR3 of a processor at the start, which has to be below 2 to the power of `m`, and whether it
-/// has global pages.
-#[tactic(auto, unfolding(pg_event::specs::Reading::start_at))]
-pub(crate) fn start_of(maxphyaddr: u8, bytes: &[u8]) -> Result<((u64, bool), &[u8]), Refusal>
-    requires { maxphyaddr ≤ 52 }
-    ensures value { Gives (λ x. (x.0, x.1.now)) result (start_at maxphyaddr bytes.now) }
-    ensures cr3 { IfOk result (λ x. x.0.0 < 2 ^ maxphyaddr) }
-{
-    let (cr3, rest) = u64_of(bytes)?;
-    if cr3 >= 1 << maxphyaddr {
-        return Err(Refusal::HeaderField);
-    }
-    let (pge, rest) = byte_of(rest)?;
-    if pge >= 2 {
-        return Err(Refusal::HeaderField);
-    }
-    Ok(((cr3, pge == 1), rest))
-}
-
 fn starts_of<'a>(
     alloc: Global,
     maxphyaddr: u8,
@@ -102,43 +66,23 @@ fn starts_of<'a>(
 }
 
 /// A header after its version.
-#[tactic(auto, unfolding(crate::specs::Reading::settings_behind))]
-fn settings_of<'a>(
+#[tactic(auto, unfolding(crate::specs::Reading::header_behind))]
+fn header_after<'a>(
     alloc: Global,
     version: Version,
     bytes: &'a [u8],
 ) -> Result<(Header, &'a [u8]), SpannedError>
     ensures value { Answers (λ x. (x.0, x.1.now)) result
-        (plain (settings_behind version bytes.now)) }
+        (plain (header_behind version bytes.now)) }
     ensures head { IfOk result (λ x. IsHead x.0) }
 {
-    let (maxphyaddr, rest) = byte_of(bytes)?;
-    if maxphyaddr < LEAST_MAXPHYADDR || maxphyaddr > MOST_MAXPHYADDR {
-        return Err(SpannedError::from(Refusal::HeaderField));
-    }
-    let (flags, rest) = byte_of(rest)?;
-    if flags >= 16 {
-        return Err(SpannedError::from(Refusal::HeaderField));
-    }
-    let (count, rest) = processor_number(version, rest)?;
-    if count < 1 || count as usize > most_processors(version) {
-        return Err(SpannedError::from(Refusal::HeaderField));
-    }
-    let (segment, rest) = u32_of(rest)?;
-    if segment < 1 || segment > MOST_SEGMENT {
-        return Err(SpannedError::from(Refusal::HeaderField));
-    }
-    let (processors, rest) = starts_of(alloc, maxphyaddr, count, rest)?;
-    let flags = CfgFlags(flags);
-    let cfg = Cfg {
-        flags,
-        m: maxphyaddr,
-    };
+    let (settings, rest) = settings_after(version, bytes)?;
+    let (processors, rest) = starts_of(alloc, settings.cfg.m, settings.count, rest)?;
     Ok((
         Header {
-            version,
-            cfg,
-            segment,
+            version: settings.version,
+            cfg: settings.cfg,
+            segment: settings.segment,
             processors,
         },
         rest,
@@ -154,5 +98,5 @@ pub(crate) fn header_of<'a>(
     ensures head { IfOk result (λ x. IsHead x.0) }
 {
     let (version, rest) = front_of(bytes)?;
-    settings_of(alloc, version, rest)
+    header_after(alloc, version, rest)
 }

@@ -1,16 +1,13 @@
 //! The header of a log at the front of a slice.
 
 ghost use Rattle.std.specs.Prelude.{◌≡◌, IfOk};
-ghost use Rattle.pg_event.specs.Reading.{version_at};
 ghost use Rattle.pg_codec.specs.Reads.{Gives};
 ghost use Rattle.pg_span_codec.specs.Logs.{AreLogSettings};
 ghost use Rattle.pg_span_codec.specs.LogReading.{log_magic_at, log_header_at};
 
-use crate::header::start_of;
 use crate::log::LogHeader;
-use pg_codec::{byte_of, u16_of};
-use pg_entry::{Cfg, CfgFlags};
-use pg_event::{LEAST_MAXPHYADDR, MOST_MAXPHYADDR, Refusal, Version, most_processors};
+use pg_codec::{cfg_of, start_of, u16_of, version_of};
+use pg_event::{Refusal, most_processors};
 
 #[tactic(auto, unfolding(crate::specs::LogReading::log_magic_at))]
 fn magic_of(bytes: &[u8]) -> Result<(&[u8], &[u8]), Refusal>
@@ -26,18 +23,6 @@ fn magic_of(bytes: &[u8]) -> Result<(&[u8], &[u8]), Refusal>
     Ok((front, rest))
 }
 
-#[tactic(auto, unfolding(pg_event::specs::Reading::version_at))]
-fn version_of(bytes: &[u8]) -> Result<(Version, &[u8]), Refusal>
-    ensures { Gives (λ x. (x.0, x.1.now)) result (version_at bytes.now) }
-{
-    let (number, rest) = u16_of(bytes)?;
-    match number {
-        1 => Ok((Version::One, rest)),
-        2 => Ok((Version::Two, rest)),
-        _ => Err(Refusal::Version),
-    }
-}
-
 #[tactic(auto, unfolding(crate::specs::LogReading::log_header_at))]
 pub(crate) fn header_of(bytes: &[u8]) -> Result<(LogHeader, &[u8]), Refusal>
     ensures value { Gives (λ x. (x.0, x.1.now)) result (log_header_at bytes.now) }
@@ -45,14 +30,7 @@ pub(crate) fn header_of(bytes: &[u8]) -> Result<(LogHeader, &[u8]), Refusal>
 {
     let (_, rest) = magic_of(bytes)?;
     let (version, rest) = version_of(rest)?;
-    let (maxphyaddr, rest) = byte_of(rest)?;
-    if maxphyaddr < LEAST_MAXPHYADDR || maxphyaddr > MOST_MAXPHYADDR {
-        return Err(Refusal::HeaderField);
-    }
-    let (flags, rest) = byte_of(rest)?;
-    if flags >= 16 {
-        return Err(Refusal::HeaderField);
-    }
+    let (cfg, rest) = cfg_of(rest)?;
     let (processors, rest) = u16_of(rest)?;
     if processors < 1 || processors as usize > most_processors(version) {
         return Err(Refusal::HeaderField);
@@ -61,12 +39,7 @@ pub(crate) fn header_of(bytes: &[u8]) -> Result<(LogHeader, &[u8]), Refusal>
     if own >= processors {
         return Err(Refusal::HeaderField);
     }
-    let (start, rest) = start_of(maxphyaddr, rest)?;
-    let flags = CfgFlags(flags);
-    let cfg = Cfg {
-        flags,
-        m: maxphyaddr,
-    };
+    let (start, rest) = start_of(cfg.m, rest)?;
     let header = LogHeader {
         version,
         cfg,
