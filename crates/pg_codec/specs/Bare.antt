@@ -7,7 +7,7 @@ use Rattle.pg_event.specs.declared.event.Event.TheVariants.{Invpcid, MovCr4Pge}
 use Rattle.pg_event.specs.declared.refusal.Refusal.TheVariants as refusals
 use Rattle.pg_event.specs.Heads.{Head}
 use Rattle.pg_event.specs.Form.{broken_rule}
-use Rattle.pg_event.specs.Spelling.{outcome_bytes, field_bytes}
+use Rattle.pg_event.specs.Spelling.{outcome_bytes, moments_bytes, field_bytes}
 use Rattle.pg_event.specs.Reading.{◌>>=◌, Part, byte_at, number_at, passing, is_between}
 use Rattle.pg_event.specs.Reading.{processor_at, outcome_at, moments_at, fields_at, last_tag}
 use Rattle.pg_event.specs.Reading.{well_formed_at}
@@ -39,6 +39,16 @@ bare_bytes (MovCr3 p operand) = field_bytes (MovCr3 p operand)
 bare_bytes (Invlpg p la) = field_bytes (Invlpg p la)
 bare_bytes (Invpcid p kind pcid la) = field_bytes (Invpcid p kind pcid la)
 bare_bytes (MovCr4Pge p on) = field_bytes (MovCr4Pge p on)
+
+-- the moments of an event, after its other fields
+abbrev pub named_bytes : Event → List ℕ
+named_bytes (Access p flags la outcome moments) = moments_bytes moments
+named_bytes (Assist p flags la word moments) = moments_bytes moments
+named_bytes (Write p addr value) = []
+named_bytes (MovCr3 p operand) = []
+named_bytes (Invlpg p la) = []
+named_bytes (Invpcid p kind pcid la) = []
+named_bytes (MovCr4Pge p on) = []
 
 -- the moments after the other fields, where they are named
 abbrev pub moments_in : Naming → List ℕ → Part (List ℕ)

@@ -29,12 +29,15 @@ Passes old waiting new left (Err e) = AppendsSome old new waiting
 abbrev pub FitVersion : Version → List Event → Type 0
 FitVersion version events = AllByRecursion (λ e. processor_of e < most_processors version) events
 
+-- a header without its processors, with this number of its version
+abbrev pub numbered_bytes : ℕ → Head → List ℕ
+numbered_bytes number head =
+    codes "PGRECORD" ++ to_le_bytes w16 number ++ (head.cfg.m ∷ head.cfg.flags.0 ∷ [])
+    ++ processor_bytes head.version (length head.processors) ++ to_le_bytes w32 head.segment
+
 -- a header without its processors
 abbrev pub settings_bytes : Head → List ℕ
-settings_bytes head =
-    codes "PGRECORD" ++ to_le_bytes w16 (version_number head.version)
-    ++ (head.cfg.m ∷ head.cfg.flags.0 ∷ [])
-    ++ processor_bytes head.version (length head.processors) ++ to_le_bytes w32 head.segment
+settings_bytes head = numbered_bytes (version_number head.version) head
 
 -- a segment without its events
 abbrev pub segment_head_bytes : ℕ → ℕ → List ℕ

@@ -10,9 +10,9 @@ use std::marker::Model;
 /// The bytes that a block has room for.
 pub(crate) const BLOCK: usize = 4096;
 
-/// Bytes that wait to be put.
+/// Bytes that wait to be put. There is room for 4,096.
 #[derive(Drop)]
-pub(crate) struct Block {
+pub struct Block {
     bytes: [u8; BLOCK],
     len: usize,
 }
@@ -28,7 +28,8 @@ impl Model for Block {
 }
 
 impl Block {
-    pub(crate) fn new() -> Block
+    /// No bytes.
+    pub fn new() -> Block
         ensures { result ≡ [] }
     {
         Block {
@@ -37,19 +38,22 @@ impl Block {
         }
     }
 
-    pub(crate) fn len(&self) -> usize
+    /// How many bytes there are.
+    pub fn len(&self) -> usize
         ensures { result ≡ length self.now }
     {
         self.len
     }
 
-    pub(crate) fn as_slice(&self) -> &[u8]
+    /// The bytes.
+    pub fn as_slice(&self) -> &[u8]
         ensures { result.now ≡ self.now }
     {
         &self.bytes[..self.len]
     }
 
-    pub(crate) fn clear(&mut self)
+    /// Lets all bytes go.
+    pub fn clear(&mut self)
         ensures { self.new ≡ [] }
     {
         self.len = 0;
@@ -78,7 +82,8 @@ impl Block {
         self.len += 2;
     }
 
-    pub(crate) fn push_u32(&mut self, n: u32)
+    /// A number of four bytes.
+    pub fn push_u32(&mut self, n: u32)
         requires { length self.old + 4 ≤ 4096 }
         ensures { self.new ≡ self.old ++ to_le_bytes w32 n }
     {

@@ -23,6 +23,7 @@ mod transfer;
 mod watched;
 mod writer;
 
+pub use block::Block;
 pub use decoder::{event_of, fields_of, last_tag};
 pub use error::ReadError;
 pub use fields::{byte_of, processor_number, u16_of, u32_of, u64_of};
@@ -31,6 +32,9 @@ pub use intake::{IntakeError, pull_all};
 pub use naming::Naming;
 pub use reader::RecordReader;
 pub use settings::Settings;
+pub use spelling::{
+    push_bare, push_end, push_event_head, push_segment_head, push_settings, push_start,
+};
 pub use stream::{Failed, Sink, Source};
 pub use transfer::put_all;
 pub use watched::Watched;

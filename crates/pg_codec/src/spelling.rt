@@ -1,13 +1,13 @@
-//! The one spelling of a header and of an event, into a block.
+//! The one spelling of the parts of a record, into a block.
 
 ghost use Rattle.std.specs.Prelude.{◌≡◌, ◌+◌, ◌<◌, ◌≤◌, [], ◌∷◌, ◌++◌, length, codes};
-ghost use Rattle.std.specs.Int.{w64, to_le_bytes};
 ghost use Rattle.pg_event.specs.Form.{processor_of};
 ghost use Rattle.pg_event.specs.Heads.{most_processors};
 ghost use Rattle.pg_event.specs.Spelling.{IsHead, start_bytes, processor_bytes, outcome_bytes};
-ghost use Rattle.pg_event.specs.Spelling.{moments_bytes, tag_of, field_bytes, event_bytes};
+ghost use Rattle.pg_event.specs.Spelling.{moments_bytes, tag_of, event_bytes, end_bytes};
 ghost use Rattle.pg_event.specs.Spelling.{version_number};
-ghost use Rattle.pg_codec.specs.Writing.{settings_bytes, segment_head_bytes};
+ghost use Rattle.pg_codec.specs.Bare.{bare_bytes, named_bytes};
+ghost use Rattle.pg_codec.specs.Writing.{numbered_bytes, segment_head_bytes};
 
 use crate::block::Block;
 use pg_event::{Event, Header, Moments, Outcome, Version, processor_of};
@@ -22,7 +22,8 @@ fn push_magic(block: &mut Block)
     block.push_u64(u64::from_le_bytes(*b"PGRECORD"));
 }
 
-fn version_number(version: Version) -> u16
+/// The number of the version in a record without spans.
+pub(crate) fn version_number(version: Version) -> u16
     ensures { result ≡ version_number version }
 {
     match version {
@@ -43,14 +44,14 @@ fn push_processor(block: &mut Block, version: Version, number: u16)
     }
 }
 
-/// What stands before the processors.
-pub(crate) fn push_settings(block: &mut Block, header: &Header)
+/// What stands before the processors, with this number of the version.
+pub fn push_settings(block: &mut Block, number: u16, header: &Header)
     requires room { length block.old + 18 ≤ 4096 }
     requires head { IsHead header.now }
-    ensures { block.new ≡ block.old ++ settings_bytes header.now }
+    ensures { block.new ≡ block.old ++ numbered_bytes number header.now }
 {
     push_magic(block);
-    block.push_u16(version_number(header.version));
+    block.push_u16(number);
     block.push_u8(header.cfg.m);
     block.push_u8(header.cfg.flags.0);
     push_processor(block, header.version, header.processors.len() as u16);
@@ -58,7 +59,7 @@ pub(crate) fn push_settings(block: &mut Block, header: &Header)
 }
 
 /// The CR3 of a processor at the start, and whether it has global pages.
-pub(crate) fn push_start(block: &mut Block, cr3: u64, pge: bool)
+pub fn push_start(block: &mut Block, cr3: u64, pge: bool)
     requires { length block.old + 9 ≤ 4096 }
     ensures { block.new ≡ block.old ++ start_bytes (cr3, pge) }
 {
@@ -66,13 +67,23 @@ pub(crate) fn push_start(block: &mut Block, cr3: u64, pge: bool)
     block.push_bit(pge);
 }
 
-pub(crate) fn push_segment_head(block: &mut Block, number: u32, count: u32)
+/// A segment without its events.
+pub fn push_segment_head(block: &mut Block, number: u32, count: u32)
     requires { length block.old + 9 ≤ 4096 }
     ensures { block.new ≡ block.old ++ segment_head_bytes number count }
 {
     block.push_u8(1);
     block.push_u32(number);
     block.push_u32(count);
+}
+
+/// The end mark with the total of events.
+pub fn push_end(block: &mut Block, total: u32)
+    requires { length block.old + 5 ≤ 4096 }
+    ensures { block.new ≡ block.old ++ end_bytes total }
+{
+    block.push_u8(2);
+    block.push_u32(total);
 }
 
 fn push_outcome(block: &mut Block, outcome: Outcome)
@@ -103,28 +114,6 @@ fn push_moments(block: &mut Block, moments: &Moments)
     }
 }
 
-fn push_access(block: &mut Block, flags: u8, la: u64, outcome: Outcome, moments: &Moments)
-    requires { length block.old + 35 ≤ 4096 }
-    ensures { block.new ≡ block.old
-        ++ flags ∷ (to_le_bytes w64 la ++ outcome_bytes outcome ++ moments_bytes moments.now) }
-{
-    block.push_u8(flags);
-    block.push_u64(la);
-    push_outcome(block, outcome);
-    push_moments(block, moments);
-}
-
-fn push_assist(block: &mut Block, flags: u8, la: u64, word: u64, moments: &Moments)
-    requires { length block.old + 35 ≤ 4096 }
-    ensures { block.new ≡ block.old
-        ++ flags ∷ (to_le_bytes w64 la ++ to_le_bytes w64 word ++ moments_bytes moments.now) }
-{
-    block.push_u8(flags);
-    block.push_u64(la);
-    block.push_u64(word);
-    push_moments(block, moments);
-}
-
 fn tag_of(event: &Event) -> u8
     ensures { result ≡ tag_of event.now }
 {
@@ -139,9 +128,21 @@ fn tag_of(event: &Event) -> u8
     }
 }
 
-fn push_fields(block: &mut Block, event: &Event)
-    requires { length block.old + 35 ≤ 4096 }
-    ensures { block.new ≡ block.old ++ field_bytes event.now }
+/// The tag of an event and the number of its processor.
+pub fn push_event_head(block: &mut Block, version: Version, event: &Event)
+    requires room { length block.old + 3 ≤ 4096 }
+    requires processor { processor_of event.now < most_processors version }
+    ensures { block.new ≡ block.old
+        ++ tag_of event.now ∷ processor_bytes version (processor_of event.now) }
+{
+    block.push_u8(tag_of(event));
+    push_processor(block, version, processor_of(event));
+}
+
+/// The fields of an event after those, without its moments.
+pub fn push_bare(block: &mut Block, event: &Event)
+    requires { length block.old + 18 ≤ 4096 }
+    ensures { block.new ≡ block.old ++ bare_bytes event.now }
 {
     match *event {
         Event::Write { addr, value, .. } => {
@@ -152,19 +153,21 @@ fn push_fields(block: &mut Block, event: &Event)
             flags,
             la,
             outcome,
-            moments,
             ..
         } => {
-            push_access(block, flags, la, outcome, &moments);
+            block.push_u8(flags);
+            block.push_u64(la);
+            push_outcome(block, outcome);
         }
         Event::Assist {
             flags,
             la,
             word,
-            moments,
             ..
         } => {
-            push_assist(block, flags, la, word, &moments);
+            block.push_u8(flags);
+            block.push_u64(la);
+            block.push_u64(word);
         }
         Event::MovCr3 { operand, .. } => block.push_u64(operand),
         Event::Invlpg { la, .. } => block.push_u64(la),
@@ -177,12 +180,29 @@ fn push_fields(block: &mut Block, event: &Event)
     }
 }
 
+/// The moments that an event names, if it does.
+fn push_named(block: &mut Block, event: &Event)
+    requires { length block.old + 17 ≤ 4096 }
+    ensures { block.new ≡ block.old ++ named_bytes event.now }
+{
+    match *event {
+        Event::Access { moments, .. } => push_moments(block, &moments),
+        Event::Assist { moments, .. } => push_moments(block, &moments),
+        Event::Write { .. } => {}
+        Event::MovCr3 { .. } => {}
+        Event::Invlpg { .. } => {}
+        Event::Invpcid { .. } => {}
+        Event::MovCr4Pge { .. } => {}
+    }
+}
+
+/// An event that names its moments.
 pub(crate) fn push_event(block: &mut Block, version: Version, event: &Event)
     requires room { length block.old + 38 ≤ 4096 }
     requires processor { processor_of event.now < most_processors version }
     ensures { block.new ≡ block.old ++ event_bytes version event.now }
 {
-    block.push_u8(tag_of(event));
-    push_processor(block, version, processor_of(event));
-    push_fields(block, event);
+    push_event_head(block, version, event);
+    push_bare(block, event);
+    push_named(block, event);
 }

@@ -7,7 +7,10 @@ ghost use Rattle.pg_codec.specs.Streams.{RaisesFailures};
 ghost use Rattle.pg_codec.specs.Writing.{Puts, Passes, FitVersion};
 
 use crate::block::{BLOCK, Block};
-use crate::spelling::{LONGEST_PART, push_event, push_segment_head, push_settings, push_start};
+use crate::spelling::{
+    LONGEST_PART, push_end, push_event, push_segment_head, push_settings, push_start,
+    version_number,
+};
 use crate::stream::{Failed, Sink};
 use crate::transfer::put_all;
 use pg_event::{Event, Header, Version};
@@ -32,7 +35,7 @@ pub fn write_header<W: Sink>(sink: &mut W, header: &Header) -> Result<(), Failed
     ensures { Puts W.Sink (header_bytes header.now) sink.old sink.new result }
 {
     let mut block = Block::new();
-    push_settings(&mut block, header);
+    push_settings(&mut block, version_number(header.version), header);
     for (cr3, pge) in &header.processors {
         make_room(sink, &mut block)?;
         push_start(&mut block, *cr3, *pge);
@@ -68,8 +71,7 @@ pub fn write_end<W: Sink>(sink: &mut W, total: u32) -> Result<(), Failed>
     ensures { Puts W.Sink (end_bytes total) sink.old sink.new result }
 {
     let mut block = Block::new();
-    block.push_u8(2);
-    block.push_u32(total);
+    push_end(&mut block, total);
     put_all(sink, block.as_slice())
 }
 

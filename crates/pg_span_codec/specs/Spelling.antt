@@ -1,8 +1,7 @@
 -- Records of versions 3 and 4, whose events have spans, and the one spelling of each.
 use Rattle.std.specs.Prelude.{◌≡◌, ℕ, zero, suc, ◌+◌, List, [], ◌∷◌, ◌++◌, length, take, drop}
-use Rattle.std.specs.Prelude.{codes}
 use Rattle.std.specs.List.{flat_map, zip, AllByRecursion}
-use Rattle.std.specs.Int.{w16, w32, to_le_bytes}
+use Rattle.std.specs.Int.{w32, to_le_bytes}
 use Rattle.pg_event.specs.declared.event.Event.{Event}
 use Rattle.pg_event.specs.declared.version.Version.{Version}
 use Rattle.pg_event.specs.Heads.{Head}
@@ -10,6 +9,7 @@ use Rattle.pg_event.specs.Form.{processor_of}
 use Rattle.pg_event.specs.Spelling.{version_number, processor_bytes, tag_of, start_bytes}
 use Rattle.pg_event.specs.Spelling.{end_bytes, FitsEvent}
 use Rattle.pg_codec.specs.Bare.{IsBare, bare_bytes}
+use Rattle.pg_codec.specs.Writing.{numbered_bytes}
 use Rattle.pg_spanned.specs.Orders.{Spanned}
 use Rattle.pg_spanned.specs.Spanned.{IsSpanned}
 
@@ -29,10 +29,7 @@ timed_bytes version x =
 
 -- a header without its processors, as in version 1 or 2 but for the number of the version
 abbrev pub spans_settings_bytes : Head → List ℕ
-spans_settings_bytes head =
-    codes "PGRECORD" ++ to_le_bytes w16 (spans_number head.version)
-    ++ (head.cfg.m ∷ head.cfg.flags.0 ∷ [])
-    ++ processor_bytes head.version (length head.processors) ++ to_le_bytes w32 head.segment
+spans_settings_bytes head = numbered_bytes (spans_number head.version) head
 
 abbrev pub spans_header_bytes : Head → List ℕ
 spans_header_bytes head = spans_settings_bytes head ++ flat_map start_bytes head.processors

@@ -2,16 +2,20 @@ use Rattle.std.proofs.Common.{◌≡◌, ◌++◌, refl, ap, ◌∙◌, arith, L
 use Rattle.std.specs.List.{flat_map}
 use Rattle.std.proofs.lemmas.List.{take_more}
 use Rattle.std.proofs.lemmas.Result.{err_from_is_err_and}
-use Rattle.pg_event.specs.Spelling.{start_bytes, header_bytes}
-use Rattle.pg_codec.specs.Writing.{settings_bytes}
+use Rattle.pg_event.specs.Heads.{Head}
+use Rattle.pg_event.specs.Spelling.{version_number, start_bytes, header_bytes}
+use Rattle.pg_codec.specs.Writing.{numbered_bytes, settings_bytes}
 use Rattle.pg_codec.proofs.Pushed.{header_in_order}
 use Rattle.pg_codec.proofs.Written.{writing_starts, writing_fails, writing_on, writing_ends, puts_same}
 use Rattle.pg_codec.proofs.writer.write_header.Goals as goal
 
 pub loop-cr3-init : goal.loop-cr3-init
 loop-cr3-init g c =
-    let head = settings_bytes c.args.header.now in
-    writing_starts g.W.Sink start_bytes head c.deref-cr3-items.result.now _ c.push_settings.new.block (c.push_settings.ensures ∙ ap (λ (l : List ℕ). l ++ head) c.new-block.ensures)
+    let head : Head = c.args.header.now in
+    let number : ℕ = c.version_number.result in
+    let numbered : number ≡ version_number head.version = c.version_number.ensures ∙ ap (λ (h : Head). version_number h.version) c.header.view_is in
+    writing_starts g.W.Sink start_bytes (settings_bytes head) c.deref-cr3-items.result.now _ c.push_settings.new.block
+    (c.push_settings.ensures ∙ ap (λ (l : List ℕ). l ++ numbered_bytes number head) c.new-block.ensures ∙ ap (λ (n : ℕ). numbered_bytes n head) numbered)
 
 pub returns-in_err-make_room : goal.returns-in_err-make_room
 returns-in_err-make_room g c =

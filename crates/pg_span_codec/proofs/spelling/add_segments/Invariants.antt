@@ -2,7 +2,7 @@ use Rattle.std.proofs.Common.{◌≡◌, ◌+◌, ◌≤◌, ◌++◌, length}
 use Rattle.std.specs.List.{zip}
 use Rattle.pg_codec.specs.Writing.{FitVersion}
 use Rattle.pg_span_codec.specs.Spelling.{timed_segments_bytes}
-use Rattle.pg_span_codec.proofs.spelling.push_segments.Given as goal
+use Rattle.pg_span_codec.proofs.spelling.add_segments.Given as goal
 
 abbrev pub invariant-loop-events : goal.invariant-loop-events
 invariant-loop-events l = record {

@@ -5,7 +5,7 @@ use Rattle.pg_codec.specs.Writing.{segment_head_bytes}
 use Rattle.pg_span_codec.specs.Spelling.{timed_bytes}
 use Rattle.pg_span_codec.proofs.Pushes.{pushed_on, pushed_all}
 use Rattle.pg_span_codec.proofs.Zips.{zip_count, zip_more}
-use Rattle.pg_span_codec.proofs.spelling.push_segment.Goals as goal
+use Rattle.pg_span_codec.proofs.spelling.add_segment.Goals as goal
 
 pub loop-i-preserved : goal.loop-i-preserved
 loop-i-preserved c =
@@ -19,7 +19,7 @@ loop-i-preserved c =
     let second = take_more backs i 0 below in
     let taken = zip_more events backs i event (get_or backs i 0) first second (length-take-le i events (omega (arith, lt))) (length-take-le i backs (omega (arith, below))) in
     pushed_on (timed_bytes c.args.version) (zip events backs) i (c.args.bytes.now.items ++ segment_head_bytes c.args.number (length events)) c.loop-i.bytes.items c.loop-i.invariant
-    (event, get_or backs i 0) c.push_event.new.bytes.items taken c.in_ok-push_event.ensures
+    (event, get_or backs i 0) c.add_event.new.bytes.items taken c.in_ok-add_event.ensures
 
 pub returns : goal.returns
 returns c =

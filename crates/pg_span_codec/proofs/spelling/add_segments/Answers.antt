@@ -8,7 +8,7 @@ use Rattle.pg_event.proofs.Chunks.{all_cut}
 use Rattle.pg_codec.specs.Writing.{FitVersion}
 use Rattle.pg_span_codec.specs.Spelling.{timed_segment_bytes, timed_segments_bytes}
 use Rattle.pg_span_codec.proofs.Zips.{others_count, segment_pushed}
-use Rattle.pg_span_codec.proofs.spelling.push_segments.Goals as goal
+use Rattle.pg_span_codec.proofs.spelling.add_segments.Goals as goal
 
 pub loop-events-preserved : goal.loop-events-preserved
 loop-events-preserved c =
@@ -26,11 +26,11 @@ loop-events-preserved c =
     let total : List ℕ = c.args.bytes.now.items ++ timed_segments_bytes head 0 (length c.args.events.now) (zip c.args.events.now c.args.backs.now) in
     let more : 0 < length events = search rules in
     let n_is : n ≡ min (length events) head.segment = c.min-size.ensures ∙ ap (λ (h : Head). min (length events) h.segment) c.header.view_is in
-    let pushed = c.in_ok-push_segment.ensures ∙ ap (λ (h : Head). now ++ timed_segment_bytes h.version number (zip front front_backs)) c.header.view_is in
+    let pushed = c.in_ok-add_segment.ensures ∙ ap (λ (h : Head). now ++ timed_segment_bytes h.version number (zip front front_backs)) c.header.view_is in
     let left : length others ≡ length events - n = ap (λ (xs : List Event). length xs) c.split_at.ensures.back ∙ length-drop n events in
     record {
       spelled = segment_pushed head number n events front others backs front_backs other_backs now total c.requires.size more was.same n_is c.split_at.ensures.front c.split_at.ensures.back
-          c.split_at-in-loop-events.ensures.front c.split_at-in-loop-events.ensures.back c.push_segment.new.bytes.items was.spelled pushed;
+          c.split_at-in-loop-events.ensures.front c.split_at-in-loop-events.ensures.back c.add_segment.new.bytes.items was.spelled pushed;
       same = others_count head number n events front others backs front_backs other_backs now total c.requires.size more was.same n_is c.split_at.ensures.front c.split_at.ensures.back
           c.split_at-in-loop-events.ensures.front c.split_at-in-loop-events.ensures.back;
       below = omega (arith, left, n_is, c.requires.size, more, was.below);
