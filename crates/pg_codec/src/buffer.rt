@@ -17,9 +17,9 @@ use std::marker::Model;
 /// The bytes of a block.
 const CAPACITY: usize = 65536;
 
-/// Moves the bytes of a range to the front, fills the rest of the slice, and answers how many bytes
-/// there are.
-fn refill_slice<R: Source>(
+/// Moves the bytes of a range to the front, fills the rest of the slice as far as the source has
+/// bytes, and answers how many there are.
+pub fn refill_slice<R: Source>(
     source: &mut R,
     bytes: &mut [u8],
     start: usize,

@@ -24,6 +24,7 @@ mod watched;
 mod writer;
 
 pub use block::Block;
+pub use buffer::refill_slice;
 pub use decoder::{event_of, fields_of, last_tag};
 pub use error::ReadError;
 pub use fields::{byte_of, processor_number, u16_of, u32_of, u64_of};
