@@ -21,6 +21,17 @@ pub(crate) struct Version {
 /// So many versions of a word are looked at.
 const MOST: usize = 1024;
 
+/// The flags that an assist sets which sets the dirty flag too.
+const DIRTY: u64 = 0x60;
+
+/// The one of two versions that begins earlier; the first where both begin at once.
+fn earlier(best: Option<Version>, other: Version) -> Option<Version> {
+    match best {
+        Some(best) if best.from <= other.from => Some(best),
+        _ => Some(other),
+    }
+}
+
 /// The values that a word may have in some order in slots of a processor.
 #[derive(Clone, Copy)]
 struct Search<'s> {
@@ -76,6 +87,15 @@ impl<'s> Search<'s> {
         }
     }
 
+    /// The last event that may come before the end of a slot, where events come so far after their
+    /// number.
+    fn last_event(&self, slot: u32, reach: u32) -> u32 {
+        match self.facts.own(self.p, slot) {
+            Some(event) => event.saturating_add(reach),
+            None => NEVER,
+        }
+    }
+
     /// The last slot in which what was written may still stand.
     fn last_slot(&self, writer: u32, next: u32) -> u32 {
         let writes = self.facts.writes.list(self.word);
@@ -88,16 +108,16 @@ impl<'s> Search<'s> {
                 self.facts.reach,
             )
         };
+        let mut last = self.last_event(to, reach);
         for k in next..number(writes.len()) {
             let other = at(writes, k);
-            if let Some(event) = self.facts.own(self.p, to) {
-                if other > event.saturating_add(reach) {
-                    break;
-                }
+            if other > last {
+                break;
             }
             let is_later = writer == NEVER || self.facts.must_precede(writer, other);
             if is_later && self.facts.marks(other).is_none() && self.may_end(other, to) {
                 to = to.min(self.facts.after(self.p, other));
+                last = self.last_event(to, reach);
             }
         }
         to
@@ -124,10 +144,13 @@ impl<'s> Search<'s> {
         })
     }
 
-    /// What a write wrote, with the flags of an assist that may come after it.
-    fn marked(&self, plain: &Version, marks: u64) -> Option<Version> {
-        if plain.value | marks == plain.value {
-            return None;
+    /// What a write wrote, with the flags of an assist that may come after it: with the accessed
+    /// flag alone, and with the dirty flag too.
+    fn marked(&self, plain: &Version) -> [Option<Version>; 2] {
+        let mut accessed = None;
+        let mut dirty = None;
+        if plain.value | DIRTY == plain.value {
+            return [None, None];
         }
         let writes = self.facts.writes.list(self.word);
         let least = if plain.writer == NEVER {
@@ -135,35 +158,42 @@ impl<'s> Search<'s> {
         } else {
             self.facts.since(plain.writer)
         };
-        let mut best: Option<Version> = None;
+        let last = self.last_event(self.last.min(plain.to), self.facts.reach);
         for k in count_below(writes, least)..number(writes.len()) {
             let other = at(writes, k);
-            if let Some(event) = self.facts.own(self.p, self.last.min(plain.to)) {
-                if other > event.saturating_add(self.facts.reach) {
-                    break;
-                }
+            if other > last {
+                break;
             }
-            if self.facts.marks(other) != Some(marks) {
+            let Some(marks) = self.facts.marks(other) else {
                 continue;
-            }
-            if plain.writer != NEVER && self.facts.must_precede(other, plain.writer) {
-                continue;
-            }
-            let from = self.facts.first_slot(self.p, other).max(plain.from);
-            let is_better = match &best {
-                Some(best) => from < best.from,
-                None => from <= plain.to && from <= self.last,
             };
-            if is_better {
-                best = Some(Version {
-                    value: plain.value | marks,
-                    from,
-                    assist: other,
-                    ..*plain
-                });
+            match self.marked_by(plain, other, marks) {
+                Some(version) if marks == DIRTY => dirty = earlier(dirty, version),
+                Some(version) => accessed = earlier(accessed, version),
+                None => {}
             }
         }
-        best
+        [accessed, dirty]
+    }
+
+    /// What a write wrote, with the flags that an assist sets, where it may come after the write.
+    fn marked_by(&self, plain: &Version, assist: u32, marks: u64) -> Option<Version> {
+        if plain.value | marks == plain.value {
+            return None;
+        }
+        if plain.writer != NEVER && self.facts.must_precede(assist, plain.writer) {
+            return None;
+        }
+        let from = self.facts.first_slot(self.p, assist).max(plain.from);
+        if from > plain.to || from > self.last {
+            return None;
+        }
+        Some(Version {
+            value: plain.value | marks,
+            from,
+            assist,
+            ..*plain
+        })
     }
 
     fn push_all(&self, out: &mut Vec<Version>) -> Result<(), AllocError> {
@@ -184,8 +214,8 @@ impl<'s> Search<'s> {
             if self.facts.version == Format::One || writer == NEVER {
                 continue;
             }
-            for marks in [0x20, 0x60] {
-                if let Some(version) = self.marked(&plain, marks) {
+            for version in self.marked(&plain) {
+                if let Some(version) = version {
                     out.push(version)?;
                 }
             }

@@ -36,16 +36,19 @@ conflict_text =
     ++ (codes " --output, --bytes, --order, --svg and\n  --trace; several files exclude --json,"
     ++ (codes " --bytes, --svg and --trace; --loads goes with --page" ++ more_text))))
 
+-- of which `explain` is asked to tell bad events in two ways, or of a number of them that is none
+abbrev pub IsMistold : Text → List Row → Type 0
+IsMistold name rows =
+    (name ≡ codes "explain") × ((telling : Telling) → ¬ IsTellingOf rows telling)
+
 -- The text is what is wrong with a command's options, where `clap` takes the words: of two of them
 -- one has no effect, or else what they ask to be told of bad events, or else a number.
 abbrev pub IsWrong : Option (Text × List Row) → Text → Type 0
 IsWrong None text = text ≡ number_text
 IsWrong (Some (name, rows)) text =
     ((has_conflict rows ≡ true) × (text ≡ conflict_text))
-    ⊎ ((has_conflict rows ≡ false) × ((telling : Telling) → ¬ IsTellingOf rows telling)
-    × (text ≡ telling_text))
-    ⊎ ((has_conflict rows ≡ false) × (telling : Telling) × IsTellingOf rows telling
-    × (text ≡ number_text))
+    ⊎ ((has_conflict rows ≡ false) × IsMistold name rows × (text ≡ telling_text))
+    ⊎ ((has_conflict rows ≡ false) × ¬ IsMistold name rows × (text ≡ number_text))
 
 -- the text is told as a fault, or memory was refused
 abbrev pub IsFaultOf : Text → Usage → Type 0

@@ -407,19 +407,29 @@ fn list_of<'a>(
     Ok(all)
 }
 
-/// What is wrong with the words where `clap` takes them.
-fn wrong_with(matches: &ArgMatches<'_>) -> &'static str
-    ensures { IsWrong (subcommand_rows_of matches.now) result.now }
+/// What is wrong with the options of the command of that name, where `clap` takes the words.
+fn wrong_in(name: &str, own: &ArgMatches<'_>) -> &'static str
+    ensures { IsWrong (Some (name.now, options_of own.now)) result.now }
 {
-    let Some((_, own)) = matches.subcommand() else {
-        return NO_NUMBER;
-    };
     if has_conflict(own) {
         return CONFLICT;
+    }
+    if name != EXPLAIN {
+        return NO_NUMBER;
     }
     match telling_in(own) {
         None => NO_TELLING,
         Some(_) => NO_NUMBER,
+    }
+}
+
+/// What is wrong with the words where `clap` takes them.
+fn wrong_with(matches: &ArgMatches<'_>) -> &'static str
+    ensures { IsWrong (subcommand_rows_of matches.now) result.now }
+{
+    match matches.subcommand() {
+        Some((name, own)) => wrong_in(name, own),
+        None => NO_NUMBER,
     }
 }
 
