@@ -7,9 +7,9 @@ use Rattle.pg_event.specs.Heads.{Head}
 use Rattle.pg_event.specs.Values.{mem_at, control_at}
 use Rattle.pg_chain.specs.declared.past.Past.{Past}
 use Rattle.pg_chain.specs.declared.reader.Word.{Word}
-use Rattle.pg_chain.specs.declared.reader.Spell.{Spell}
+use Rattle.pg_chain.specs.declared.reader.ControlSpan.{ControlSpan}
 use Rattle.pg_chain.specs.Standing.{IsPast}
-use Rattle.pg_chain.specs.Known.{IsWord, IsSpell}
+use Rattle.pg_chain.specs.Known.{IsWord, IsControlSpan}
 
 pub all_at : {T : Type 0} (P : T → Type 0) (xs : List T) (i : ℕ) (d : T) → AllByRecursion P xs → i < length xs → P (get_or xs i d)
 all_at P [] i d all h = absurd (omega arith)
@@ -28,14 +28,14 @@ word_read past word None moment address is same h head events stands = tt
 word_read past word (Some v) moment address is same h head events stands =
     h.2 ∙ sym (is head events stands moment h.0 h.1) ∙ ap (mem_at events moment) same
 
-pub spell_read : (past : Past) (spell : Spell) (o : Option Control) (moment p : ℕ) → IsSpell past spell → spell.p ≡ p →
-    IfSome o (λ c. (spell.span.from ≤ moment) × (moment ≤ spell.span.to) × (c ≡ spell.span.value)) →
+pub control_span_read : (past : Past) (kept : ControlSpan) (o : Option Control) (moment p : ℕ) → IsControlSpan past kept → kept.p ≡ p →
+    IfSome o (λ c. (kept.span.from ≤ moment) × (moment ≤ kept.span.to) × (c ≡ kept.span.value)) →
     (head : Head) (events : List Event) → IsPast past head events → IfSome o (λ c. c ≡ control_at head events p moment)
-spell_read past spell None moment p is same h head events stands = tt
-spell_read past spell (Some c) moment p is same h head events stands =
+control_span_read past kept None moment p is same h head events stands = tt
+control_span_read past kept (Some c) moment p is same h head events stands =
     h.2 ∙ sym (is.same head events stands moment h.0 h.1) ∙ ap (λ q. control_at head events q moment) same
 
-pub spell_low : (past : Past) (spell : Spell) (o : Option Control) (moment : ℕ) → IsSpell past spell →
-    IfSome o (λ c. (spell.span.from ≤ moment) × (moment ≤ spell.span.to) × (c ≡ spell.span.value)) → IfSome o (λ c. c.root < 2 ^ 52)
-spell_low past spell None moment is h = tt
-spell_low past spell (Some c) moment is h = subst (λ (x : Control). x.root < 2 ^ 52) (sym h.2) is.root
+pub control_span_low : (past : Past) (kept : ControlSpan) (o : Option Control) (moment : ℕ) → IsControlSpan past kept →
+    IfSome o (λ c. (kept.span.from ≤ moment) × (moment ≤ kept.span.to) × (c ≡ kept.span.value)) → IfSome o (λ c. c.root < 2 ^ 52)
+control_span_low past kept None moment is h = tt
+control_span_low past kept (Some c) moment is h = subst (λ (x : Control). x.root < 2 ^ 52) (sym h.2) is.root

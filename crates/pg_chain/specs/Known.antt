@@ -4,8 +4,8 @@ use Rattle.std.specs.List.{AllByRecursion}
 use Rattle.pg_event.specs.Values.{mem_at, control_at}
 use Rattle.pg_chain.specs.declared.past.Past.{Past}
 use Rattle.pg_chain.specs.declared.reader.Word.{Word}
-use Rattle.pg_chain.specs.declared.reader.Spell.{Spell}
-use Rattle.pg_chain.specs.declared.reader.Stay.{Stay}
+use Rattle.pg_chain.specs.declared.reader.ControlSpan.{ControlSpan}
+use Rattle.pg_chain.specs.declared.reader.SpaceDrop.{SpaceDrop}
 use Rattle.pg_chain.specs.Standing.{InEachRun}
 use Rattle.pg_inval.specs.Spaces.{IsSpaceDrop}
 
@@ -17,22 +17,23 @@ IsWord past word =
 
 -- a processor has its control registers at each moment of their span, and its table lies within the
 -- physical addresses
-pub record IsSpell (past : Past) (spell : Spell) : Type 0 where
-  pub root : spell.span.value.root < 2 ^ 52
-  pub same : InEachRun past (λ head events. (w : ℕ) → spell.span.from ≤ w → w ≤ spell.span.to →
-      control_at head events spell.p w ≡ spell.span.value)
+pub record IsControlSpan (past : Past) (kept : ControlSpan) : Type 0 where
+  pub root : kept.span.value.root < 2 ^ 52
+  pub same : InEachRun past (λ head events. (w : ℕ) → kept.span.from ≤ w → w ≤ kept.span.to →
+      control_at head events kept.p w ≡ kept.span.value)
 
--- a stay has the first drop of its space from its moment on
-abbrev pub IsStay : Past → Stay → Type 0
-IsStay past stay = IsSpaceDrop past.drops stay.space stay.from (2 ^ 32 - 1) stay.first
+-- what is kept of a space is its first drop from a moment on
+abbrev pub IsDropOfSpace : Past → SpaceDrop → Type 0
+IsDropOfSpace past drop = IsSpaceDrop past.drops drop.space drop.from (2 ^ 32 - 1) drop.first
 
 -- what each place has, if it has anything
 abbrev pub IfKept : {T : Type 0} → (T → Type 0) → Option T → Type 0
 IfKept P None = Unit {0}
 IfKept P (Some x) = P x
 
-pub record AreKnown (past : Past) (words : List (Option Word)) (spells : List (Option Spell))
-    (stays : List (Option Stay)) : Type 0 where
+pub record AreKnown (past : Past) (words : List (Option Word))
+    (control_spans : List (Option ControlSpan)) (space_drops : List (Option SpaceDrop)) :
+    Type 0 where
   pub values : AllByRecursion (IfKept (IsWord past)) words
-  pub controls : AllByRecursion (IfKept (IsSpell past)) spells
-  pub drops : AllByRecursion (IfKept (IsStay past)) stays
+  pub controls : AllByRecursion (IfKept (IsControlSpan past)) control_spans
+  pub drops : AllByRecursion (IfKept (IsDropOfSpace past)) space_drops

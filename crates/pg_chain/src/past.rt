@@ -79,7 +79,7 @@ impl Past {
 
     /// Notes the event with this number, which is the next. Fails where memory is refused, and then
     /// nothing is noted. An access that got its answer takes no memory. Lists of what it drops are
-    /// made by `catch_up` and `catch_up_pages` alone.
+    /// made by the `catch_up` calls alone.
     #[inline(always)]
     pub fn note_later(&mut self, moment: u32, event: &Event) -> Result<(), AllocError>
         requires next { IsNext self.old moment }

@@ -8,6 +8,7 @@ const SPREAD: u64 = 0x9e37_79b9_7f4a_7c15;
 #[inline(always)]
 pub fn place_among(count: usize, key: u64) -> usize {
     let number = key.wrapping_mul(SPREAD) >> 32;
-    // The same part of the places that this number is of 2 to the power of 32.
+    // The number divided by 2 to the power of 32 is a fraction below 1: the place is this fraction
+    // of the count.
     (number.wrapping_mul(count as u64) >> 32) as usize
 }

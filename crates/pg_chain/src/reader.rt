@@ -8,7 +8,7 @@ ghost use Rattle.pg_entry.specs.Kinds.{IsPageShift};
 ghost use Rattle.pg_inval.specs.Drops.{IsTableLevel};
 ghost use Rattle.pg_inval.specs.Lists.{IsFirstDrop, IsLeastBetween};
 ghost use Rattle.pg_chain.specs.Standing.{InEachRun, processor_count};
-ghost use Rattle.pg_chain.specs.Known.{IsWord, IsSpell, IsStay};
+ghost use Rattle.pg_chain.specs.Known.{IsWord, IsControlSpan, IsDropOfSpace};
 ghost use Rattle.pg_inval.specs.Spaces.{IsSpaceDrop, structure_space, translation_space};
 
 use crate::past::Past;
@@ -29,7 +29,7 @@ pub struct Word {
 
 /// A processor, with its control registers at some moments.
 #[derive(Clone, Copy)]
-pub struct Spell {
+pub struct ControlSpan {
     pub p: u16,
     pub span: Span<Control>,
 }
@@ -37,7 +37,7 @@ pub struct Spell {
 /// The first event from a moment on at which a processor had to drop all entries of a space, if
 /// there is one.
 #[derive(Clone, Copy)]
-pub struct Stay {
+pub struct SpaceDrop {
     pub space: Space,
     pub from: u32,
     pub first: Option<u32>,
@@ -50,8 +50,8 @@ pub struct Stay {
 pub struct Reader<'a> {
     past: &'a Past,
     words: Vec<Option<Word>>,
-    spells: Vec<Option<Spell>>,
-    stays: Vec<Option<Stay>>,
+    control_spans: Vec<Option<ControlSpan>>,
+    space_drops: Vec<Option<SpaceDrop>>,
     probes: Probes,
     /// How many entries of the log look-ups passed over.
     passed: Tally,
@@ -65,14 +65,15 @@ impl<'a> Model for Reader<'a> {
 
     ghost view = { λ r. r.past.now };
 
-    ghost invariant = { λ r. AreKnown r.past.now r.words.items r.spells.items r.stays.items };
+    ghost invariant = { λ r. AreKnown r.past.now r.words.items r.control_spans.items
+        r.space_drops.items };
 }
 
 /// So many words are kept at most.
 const MOST_WORDS: usize = 2_048;
 
 /// The drops of so many spaces are kept at most.
-const MOST_STAYS: usize = 1_024;
+const MOST_SPACE_DROPS: usize = 1_024;
 
 /// The value of a span at a moment that lies in it.
 fn value_in<V: Copy>(span: &Span<V>, moment: u32) -> Option<V>
@@ -110,16 +111,16 @@ fn is_same(one: Space, other: Space) -> bool
     }
 }
 
-/// Whether a stay also holds from a moment on: it begins no later, and its first drop, if there is
-/// one, is not before that moment.
+/// Whether a drop of a space is also the first from another moment on: it was asked for from no
+/// later one, and the drop, if there is one, is not before that moment.
 #[inline(always)]
-fn lies_before(stay: &Stay, from: u32) -> bool
+fn holds_from(known: &SpaceDrop, from: u32) -> bool
     ensures { IsTrue result → (test : ℕ → Bool) (to : ℕ) →
-        IsLeastBetween test stay.now.from to stay.now.first →
-        IsLeastBetween test from to stay.now.first }
+        IsLeastBetween test known.now.from to known.now.first →
+        IsLeastBetween test from to known.now.first }
 {
-    stay.from <= from
-        && match stay.first {
+    known.from <= from
+        && match known.first {
             Some(first) => from <= first,
             None => true,
         }
@@ -146,19 +147,19 @@ impl<'a> Reader<'a> {
         if words == 0 {
             return Reader::without_room(past);
         }
-        let spells = past.controls.processors();
+        let control_spans = past.controls.processors();
         Reader {
             past,
             words: match Vec::from_elem(past.alloc, None, words.min(MOST_WORDS)) {
                 Ok(words) => words,
                 Err(_) => Vec::new(past.alloc),
             },
-            spells: match Vec::from_elem(past.alloc, None, spells) {
-                Ok(spells) => spells,
+            control_spans: match Vec::from_elem(past.alloc, None, control_spans) {
+                Ok(control_spans) => control_spans,
                 Err(_) => Vec::new(past.alloc),
             },
-            stays: match Vec::from_elem(past.alloc, None, words.min(MOST_STAYS)) {
-                Ok(stays) => stays,
+            space_drops: match Vec::from_elem(past.alloc, None, words.min(MOST_SPACE_DROPS)) {
+                Ok(space_drops) => space_drops,
                 Err(_) => Vec::new(past.alloc),
             },
             probes: Probes::new(),
@@ -174,8 +175,8 @@ impl<'a> Reader<'a> {
         Reader {
             past,
             words: Vec::new(past.alloc),
-            spells: Vec::new(past.alloc),
-            stays: Vec::new(past.alloc),
+            control_spans: Vec::new(past.alloc),
+            space_drops: Vec::new(past.alloc),
             probes: Probes::new(),
             passed: Tally::NONE,
         }
@@ -272,9 +273,9 @@ impl<'a> Reader<'a> {
             IfSome result (λ c. c ≡ control_at head events p moment)) }
         ensures root { IfSome result (λ c. c.root < 2 ^ 52) }
     {
-        match self.spells.get(p as usize)? {
-            Some(spell) => if spell.p == p {
-                value_in(&spell.span, moment)
+        match self.control_spans.get(p as usize)? {
+            Some(kept) => if kept.p == p {
+                value_in(&kept.span, moment)
             } else {
                 None
             },
@@ -284,8 +285,8 @@ impl<'a> Reader<'a> {
 
     /// Whether a place has no control registers, or earlier ones than those up to a moment.
     fn is_behind(&self, place: usize, to: u32) -> bool {
-        match self.spells.get(place) {
-            Some(Some(spell)) => spell.span.to < to,
+        match self.control_spans.get(place) {
+            Some(Some(kept)) => kept.span.to < to,
             Some(None) => true,
             None => false,
         }
@@ -293,13 +294,13 @@ impl<'a> Reader<'a> {
 
     /// Keeps the control registers of a processor, where there is a place for it. Earlier ones than
     /// it has are not kept: look-ups go on to later and later events.
-    fn keep_spell(&mut self, spell: Spell)
-        requires { IsSpell self.old spell }
+    fn keep_control_span(&mut self, kept: ControlSpan)
+        requires { IsControlSpan self.old kept }
         ensures { self.new ≡ self.old }
     {
-        let place = spell.p as usize;
-        if place < self.spells.len() && self.is_behind(place, spell.span.to) {
-            self.spells[place] = Some(spell);
+        let place = kept.p as usize;
+        if place < self.control_spans.len() && self.is_behind(place, kept.span.to) {
+            self.control_spans[place] = Some(kept);
         }
     }
 
@@ -311,14 +312,14 @@ impl<'a> Reader<'a> {
         ensures run { InEachRun self.old (λ head events. result ≡ control_at head events p moment) }
         ensures root { result.root < 2 ^ 52 }
     {
-        if self.spells.is_empty() {
+        if self.control_spans.is_empty() {
             return self.past.control_at_counted(p, moment, &mut self.probes);
         }
         match self.known_control(p, moment) {
             Some(control) => control,
             None => {
                 let span = self.past.control_span(p, moment, &mut self.probes);
-                self.keep_spell(Spell { p, span });
+                self.keep_control_span(ControlSpan { p, span });
                 span.value
             }
         }
@@ -331,9 +332,9 @@ impl<'a> Reader<'a> {
         ensures { IfSome result
             (λ first. IsSpaceDrop self.now.drops space from (2 ^ 32 - 1) first) }
     {
-        match self.stays.get(place)? {
-            Some(stay) => if is_same(stay.space, space) && lies_before(stay, from) {
-                Some(stay.first)
+        match self.space_drops.get(place)? {
+            Some(known) => if is_same(known.space, space) && holds_from(known, from) {
+                Some(known.first)
             } else {
                 None
             },
@@ -341,13 +342,13 @@ impl<'a> Reader<'a> {
         }
     }
 
-    /// Keeps a stay at a place, where there is one.
-    fn keep_stay(&mut self, place: usize, stay: Stay)
-        requires { IsStay self.old stay }
+    /// Keeps the drop of a space at a place, where there is one.
+    fn keep_space_drop(&mut self, place: usize, kept: SpaceDrop)
+        requires { IsDropOfSpace self.old kept }
         ensures { self.new ≡ self.old }
     {
-        if place < self.stays.len() {
-            self.stays[place] = Some(stay);
+        if place < self.space_drops.len() {
+            self.space_drops[place] = Some(kept);
         }
     }
 
@@ -356,14 +357,14 @@ impl<'a> Reader<'a> {
         ensures past { self.new ≡ self.old }
         ensures drop { IsSpaceDrop self.old.drops space from (2 ^ 32 - 1) result }
     {
-        let place = place_among(self.stays.len(), number_of(space));
+        let place = place_among(self.space_drops.len(), number_of(space));
         match self.known_drop(place, space, from) {
             Some(first) => first,
             None => {
                 let window = Window { from, to: u32::MAX };
                 let drops = &self.past.drops;
                 let first = drops.first_drop_of_space(space, window, &mut self.probes);
-                self.keep_stay(place, Stay { space, from, first });
+                self.keep_space_drop(place, SpaceDrop { space, from, first });
                 first
             }
         }
@@ -378,7 +379,7 @@ impl<'a> Reader<'a> {
             result ≡ survives head events p
             (λ c e. must_drop_structure c e key) window.from window.to) }
     {
-        if self.stays.is_empty() {
+        if self.space_drops.is_empty() {
             return self
                 .past
                 .structure_survives_counted(p, key, window, &mut self.probes);
@@ -398,7 +399,7 @@ impl<'a> Reader<'a> {
             (λ a b. not (survives head events p (λ c e. must_drop_translation c e key) a b))
             from (2 ^ 32 - 1) result) }
     {
-        if self.stays.is_empty() {
+        if self.space_drops.is_empty() {
             return self
                 .past
                 .first_drop_of_translation(p, key, from, &mut self.probes);

@@ -36,7 +36,7 @@ use Rattle.pg_world.specs.Recording.{Recording, receipt_of}
 use Rattle.pg_world.specs.Walks.{address_of, word_now, moments_of, lacks_dirty, lacks_flags, assist_of, used_entry, found_entry, found_in}
 use Rattle.pg_guest.specs.declared.advance.Advance.TheVariants as answers
 use Rattle.pg_guest.specs.Turn.{Processor, Turned, keeps, after_read, assisted, goes_on, begun, turned_by, turned}
-use Rattle.pg_guest.specs.Home.{Place, at_root, word_at, place_below, Along, FromRoot, EndsInTable, IsSoundTable, IsUnderWay, IsUnderWayFor, HasSoundCaches}
+use Rattle.pg_guest.specs.Home.{WalkPosition, at_root, word_at, position_below, Along, FromRoot, EndsInTable, IsSoundTable, IsUnderWay, IsUnderWayFor, HasSoundCaches}
 use Rattle.pg_guest.specs.Progress.{EntriesArePresent, depth, progress, GoesFurther, ReadsGoFurther, NoneAssistInVersionOne}
 use Rattle.pg_guest.proofs.Turns.{begun_under}
 
@@ -75,10 +75,10 @@ no_table_at_one cfg Three e same h = cc
 no_table_at_one cfg Two e same h = cc
 no_table_at_one cfg One e same h = chosen_leaf (not (has_bit e 0)) (is_reserved cfg One e) (field e 12 cfg.m) 12 (has_bit e 8) h
 
-along_not_one : (head : Head) (es : List Event) (p la : ℕ) (key : StructureKey) (kept : KeptTable) → key.level ≡ One → (at : Place) (w : ℕ) (ws : List ℕ) →
+along_not_one : (head : Head) (es : List Event) (p la : ℕ) (key : StructureKey) (kept : KeptTable) → key.level ≡ One → (at : WalkPosition) (w : ℕ) (ws : List ℕ) →
     Along head es p la key.pcid (EndsInTable head es p la key kept) at w ws → ⊥
 along_not_one head es p la key kept same at w [] h = no_table_at_one head.cfg at.level (word_at es la at w) (h.level_is ∙ same) h.link.table
-along_not_one head es p la key kept same at w (x ∷ ws) h = along_not_one head es p la key kept same (place_below head.cfg.m es la at w) x ws h.1
+along_not_one head es p la key kept same at w (x ∷ ws) h = along_not_one head es p la key kept same (position_below head.cfg.m es la at w) x ws h.1
 
 from_root_not_one : (head : Head) (es : List Event) (p la : ℕ) (key : StructureKey) (kept : KeptTable) → key.level ≡ One → (ws : List ℕ) →
     FromRoot head es p la key.pcid (EndsInTable head es p la key kept) ws → ⊥

@@ -27,7 +27,7 @@ use Rattle.pg_guest.specs.Turn.{outcome_of}
 use Rattle.pg_guest.specs.Home.{word_at, EndsInLeaf, AreSound}
 use Rattle.pg_guest.proofs.Entries.{want_of_denied}
 use Rattle.pg_guest.proofs.Keys.{key_of, survives_alike}
-use Rattle.pg_guest.proofs.Places.{last_passed, flags_pass}
+use Rattle.pg_guest.proofs.Positions.{last_passed, flags_pass}
 use Rattle.pg_guest.proofs.Sound.{from_root_map}
 use Rattle.pg_guest.proofs.Witnesses.{reading_at, IsLast, IsServed, access_witnessed, passed}
 

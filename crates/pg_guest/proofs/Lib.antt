@@ -6,7 +6,7 @@ pub mod Stays
 pub mod Keys
 pub mod Sound
 pub mod AssistFlags
-pub mod Places
+pub mod Positions
 pub mod Hits
 pub mod Turns
 pub mod CoreRuns

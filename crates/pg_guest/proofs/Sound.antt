@@ -12,19 +12,19 @@ use Rattle.pg_event.specs.Invalidation.{must_drop_structure, must_drop_translati
 use Rattle.pg_shadow.specs.declared.entries.KeptLeaf.{KeptLeaf}
 use Rattle.pg_shadow.specs.declared.entries.KeptTable.{KeptTable}
 use Rattle.pg_shadow.specs.Caches.{Caches, same_structure, same_space, same_translation, with_table, with_leaf, after}
-use Rattle.pg_guest.specs.Home.{Place, at_root, Along, FromRoot, EndsInLeaf, IsSoundTable, IsSoundLeaf, AreSound, place_below}
+use Rattle.pg_guest.specs.Home.{WalkPosition, at_root, Along, FromRoot, EndsInLeaf, IsSoundTable, IsSoundLeaf, AreSound, position_below}
 use Rattle.pg_guest.proofs.Longer.{control_pushed}
 use Rattle.pg_guest.proofs.Stays.{table_stays, leaf_stays}
 use Rattle.pg_guest.proofs.Keys.{key_of, survives_alike, space_joins, IsSamePage, structure_is, translation_is}
 
 -- ---- walks whose end says more
 
-along_map : (head : Head) (es : List Event) (p la pcid : ℕ) (Ends Ends2 : Place → ℕ → Type 0) → ((at : Place) (w : ℕ) → Ends at w → Ends2 at w) →
-    (at : Place) (w : ℕ) (ws : List ℕ) → Along head es p la pcid Ends at w ws → Along head es p la pcid Ends2 at w ws
+along_map : (head : Head) (es : List Event) (p la pcid : ℕ) (Ends Ends2 : WalkPosition → ℕ → Type 0) → ((at : WalkPosition) (w : ℕ) → Ends at w → Ends2 at w) →
+    (at : WalkPosition) (w : ℕ) (ws : List ℕ) → Along head es p la pcid Ends at w ws → Along head es p la pcid Ends2 at w ws
 along_map head es p la pcid Ends Ends2 f at w [] h = f at w h
-along_map head es p la pcid Ends Ends2 f at w (x ∷ ws) h = (h.0, along_map head es p la pcid Ends Ends2 f (place_below head.cfg.m es la at w) x ws h.1)
+along_map head es p la pcid Ends Ends2 f at w (x ∷ ws) h = (h.0, along_map head es p la pcid Ends Ends2 f (position_below head.cfg.m es la at w) x ws h.1)
 
-pub from_root_map : (head : Head) (es : List Event) (p la pcid : ℕ) (Ends Ends2 : Place → ℕ → Type 0) → ((at : Place) (w : ℕ) → Ends at w → Ends2 at w) →
+pub from_root_map : (head : Head) (es : List Event) (p la pcid : ℕ) (Ends Ends2 : WalkPosition → ℕ → Type 0) → ((at : WalkPosition) (w : ℕ) → Ends at w → Ends2 at w) →
     (ws : List ℕ) → FromRoot head es p la pcid Ends ws → FromRoot head es p la pcid Ends2 ws
 from_root_map head es p la pcid Ends Ends2 f [] h = absurd h
 from_root_map head es p la pcid Ends Ends2 f (w ∷ ws) h = along_map head es p la pcid Ends Ends2 f (at_root (control_at head es p w)) w ws h

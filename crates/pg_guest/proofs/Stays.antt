@@ -18,15 +18,15 @@ use Rattle.pg_event.specs.Wants.{is_table}
 use Rattle.pg_shadow.specs.declared.entries.KeptLeaf.{KeptLeaf}
 use Rattle.pg_shadow.specs.declared.entries.KeptTable.{KeptTable}
 use Rattle.pg_shadow.specs.Caches.{same_space}
-use Rattle.pg_guest.specs.Home.{Place, at_root, word_at, place_below, IsLink, Along, FromRoot, EndsInTable, EndsInLeaf, IsSoundTable, IsSoundLeaf}
+use Rattle.pg_guest.specs.Home.{WalkPosition, at_root, word_at, position_below, IsLink, Along, FromRoot, EndsInTable, EndsInLeaf, IsSoundTable, IsSoundLeaf}
 use Rattle.pg_guest.proofs.Longer.{mem_longer, control_longer, survives_longer, survives_event}
 
-word_longer : (es rest : List Event) (la : ℕ) (at : Place) (w : ℕ) → w ≤ length es → word_at (es ++ rest) la at w ≡ word_at es la at w
+word_longer : (es rest : List Event) (la : ℕ) (at : WalkPosition) (w : ℕ) → w ≤ length es → word_at (es ++ rest) la at w ≡ word_at es la at w
 word_longer es rest la at w h = mem_longer es rest w (entry_address at.table at.level la) h
 
-place_longer : (m : ℕ) (es rest : List Event) (la : ℕ) (at : Place) (w : ℕ) → w ≤ length es → place_below m (es ++ rest) la at w ≡ place_below m es la at w
-place_longer m es rest la at w h =
-    ap (λ (v : ℕ). let to : Place = record { level = below at.level; table = table_of m v; rights = joined at.rights v } in to) (word_longer es rest la at w h)
+position_longer : (m : ℕ) (es rest : List Event) (la : ℕ) (at : WalkPosition) (w : ℕ) → w ≤ length es → position_below m (es ++ rest) la at w ≡ position_below m es la at w
+position_longer m es rest la at w h =
+    ap (λ (v : ℕ). let to : WalkPosition = record { level = below at.level; table = table_of m v; rights = joined at.rights v } in to) (word_longer es rest la at w h)
 
 -- the test by which an event takes out the structure entry of a level
 abbrev takes_structure : ℕ → ℕ → Level → Control → Event → Bool
@@ -35,7 +35,7 @@ takes_structure pcid la level c e = must_drop_structure c e (structure_key pcid 
 abbrev takes_translation : TranslationKey → Control → Event → Bool
 takes_translation key c e = must_drop_translation c e key
 
-link_longer : (head : Head) (es rest : List Event) (p la pcid : ℕ) (at : Place) (w x : ℕ) → x ≤ length es →
+link_longer : (head : Head) (es rest : List Event) (p la pcid : ℕ) (at : WalkPosition) (w x : ℕ) → x ≤ length es →
     IsLink head es p la pcid at w x → IsLink head (es ++ rest) p la pcid at w x
 link_longer head es rest p la pcid at w x past h =
     let early : w ≤ length es = omega (arith, h.order) in
@@ -48,29 +48,29 @@ link_longer head es rest p la pcid at w x past h =
     }
 
 -- no moment of a walk is above a bound of its last one
-along_bound : (head : Head) (es : List Event) (p la pcid : ℕ) (Ends : Place → ℕ → Type 0) (n : ℕ) → ((at : Place) (w : ℕ) → Ends at w → w ≤ n) →
-    (at : Place) (w : ℕ) (ws : List ℕ) → Along head es p la pcid Ends at w ws → w ≤ n
+along_bound : (head : Head) (es : List Event) (p la pcid : ℕ) (Ends : WalkPosition → ℕ → Type 0) (n : ℕ) → ((at : WalkPosition) (w : ℕ) → Ends at w → w ≤ n) →
+    (at : WalkPosition) (w : ℕ) (ws : List ℕ) → Along head es p la pcid Ends at w ws → w ≤ n
 along_bound head es p la pcid Ends n bound at w [] h = bound at w h
 along_bound head es p la pcid Ends n bound at w (x ∷ ws) h =
-    let rest : x ≤ n = along_bound head es p la pcid Ends n bound (place_below head.cfg.m es la at w) x ws h.1 in
+    let rest : x ≤ n = along_bound head es p la pcid Ends n bound (position_below head.cfg.m es la at w) x ws h.1 in
     let order : w ≤ x = h.0.order in omega arith
 
-along_longer : (head : Head) (es rest : List Event) (p la pcid : ℕ) (Ends Ends2 : Place → ℕ → Type 0) →
-    ((at : Place) (w : ℕ) → Ends at w → w ≤ length es) → ((at : Place) (w : ℕ) → Ends at w → Ends2 at w) →
-    (at : Place) (w : ℕ) (ws : List ℕ) → Along head es p la pcid Ends at w ws → Along head (es ++ rest) p la pcid Ends2 at w ws
+along_longer : (head : Head) (es rest : List Event) (p la pcid : ℕ) (Ends Ends2 : WalkPosition → ℕ → Type 0) →
+    ((at : WalkPosition) (w : ℕ) → Ends at w → w ≤ length es) → ((at : WalkPosition) (w : ℕ) → Ends at w → Ends2 at w) →
+    (at : WalkPosition) (w : ℕ) (ws : List ℕ) → Along head es p la pcid Ends at w ws → Along head (es ++ rest) p la pcid Ends2 at w ws
 along_longer head es rest p la pcid Ends Ends2 bound grow at w [] h = grow at w h
 along_longer head es rest p la pcid Ends Ends2 bound grow at w (x ∷ ws) h =
-    let past : x ≤ length es = along_bound head es p la pcid Ends (length es) bound (place_below head.cfg.m es la at w) x ws h.1 in
+    let past : x ≤ length es = along_bound head es p la pcid Ends (length es) bound (position_below head.cfg.m es la at w) x ws h.1 in
     let order : w ≤ x = h.0.order in
     let early : w ≤ length es = omega arith in (
       link_longer head es rest p la pcid at w x past h.0,
-      subst (λ to. Along head (es ++ rest) p la pcid Ends2 to x ws) (sym (place_longer head.cfg.m es rest la at w early))
-          (along_longer head es rest p la pcid Ends Ends2 bound grow (place_below head.cfg.m es la at w) x ws h.1),
+      subst (λ to. Along head (es ++ rest) p la pcid Ends2 to x ws) (sym (position_longer head.cfg.m es rest la at w early))
+          (along_longer head es rest p la pcid Ends Ends2 bound grow (position_below head.cfg.m es la at w) x ws h.1),
     )
 
 -- a walk by past moments is the same walk with more events, where its end is
-from_root_longer : (head : Head) (es rest : List Event) (p la pcid : ℕ) (Ends Ends2 : Place → ℕ → Type 0) →
-    ((at : Place) (w : ℕ) → Ends at w → w ≤ length es) → ((at : Place) (w : ℕ) → Ends at w → Ends2 at w) →
+from_root_longer : (head : Head) (es rest : List Event) (p la pcid : ℕ) (Ends Ends2 : WalkPosition → ℕ → Type 0) →
+    ((at : WalkPosition) (w : ℕ) → Ends at w → w ≤ length es) → ((at : WalkPosition) (w : ℕ) → Ends at w → Ends2 at w) →
     (ws : List ℕ) → FromRoot head es p la pcid Ends ws → FromRoot head (es ++ rest) p la pcid Ends2 ws
 from_root_longer head es rest p la pcid Ends Ends2 bound grow [] h = absurd h
 from_root_longer head es rest p la pcid Ends Ends2 bound grow (w ∷ ws) h =
@@ -106,7 +106,7 @@ table_stays head es e p key kept sound spared = record {
           stands = survives_event head es e p (takes_structure key.pcid la at.level) w h.link.stands spared2;
         };
         level_is = h.level_is;
-        place_is = place_longer head.cfg.m es (e ∷ []) la at w early ∙ h.place_is;
+        position_is = position_longer head.cfg.m es (e ∷ []) la at w early ∙ h.position_is;
       })
       kept.moments (sound.each la matches);
 }

@@ -39,12 +39,12 @@ use Rattle.pg_world.specs.Recording.{Recording, receipt_of, with_event}
 use Rattle.pg_world.specs.Walks.{moments_of, address_of, lacks_dirty, lacks_flags, assist_of, used_entry, found_entry}
 use Rattle.pg_event.proofs.Flags.{flags_are_told}
 use Rattle.pg_guest.specs.Turn.{Processor, Turned, fresh, done, assisted, keeps, after_read, goes_on, begun, turned_by, stopped, outcome_of, IsTurn}
-use Rattle.pg_guest.specs.Home.{Place, at_root, word_at, IsUnderWay, IsUnderWayFor, AreSound, HasSoundCaches}
+use Rattle.pg_guest.specs.Home.{WalkPosition, at_root, word_at, IsUnderWay, IsUnderWayFor, AreSound, HasSoundCaches}
 use Rattle.pg_guest.specs.Laws.{GrowsByOne, KeepsOthers, TurnsKeepHome, OthersStayAtHome, FreshAreAtHome}
 use Rattle.pg_guest.proofs.Entries.{size_is}
 use Rattle.pg_guest.proofs.Hits.{hit_witnesses}
 use Rattle.pg_guest.proofs.Keys.{structure_self, translation_self}
-use Rattle.pg_guest.proofs.Places.{Comes, comes_at_root, comes_in_table, table_now, leaf_now, absent_now, reserved_now, assist_now}
+use Rattle.pg_guest.proofs.Positions.{Comes, comes_at_root, comes_in_table, table_now, leaf_now, absent_now, reserved_now, assist_now}
 use Rattle.pg_guest.proofs.Pushed.{accepted_pushed}
 use Rattle.pg_guest.proofs.Sound.{table_kept, leaf_kept, others_sound, own_sound}
 use Rattle.pg_guest.proofs.AssistFlags.{assist_kind, assist_dirty}
@@ -138,10 +138,10 @@ set_where_allowed write d false = none (write && not d)
 
 -- ---- a level that is read
 
-abbrev walk_at : AccessKind → ℕ → Place → Option (List ℕ) → Walk
+abbrev walk_at : AccessKind → ℕ → WalkPosition → Option (List ℕ) → Walk
 walk_at kind la at ms = record { la = la; kind = kind; level = at.level; table = at.table; rights = at.rights; moments = ms }
 
--- an access of p is under way, at a place that its walk comes to
+-- an access of p is under way, at a position of its walk
 record IsReading (p : ℕ) (r : Recording) (x : Processor) (flags la : ℕ) (way : Found) : Type 0 where
   home : HasSoundCaches r.head r.events p x
   instruction : slice_get x.instructions x.place ≡ Some (Access flags la)
@@ -159,7 +159,7 @@ faults_keep p r x flags la way reading kind code ws good =
     (ap (λ (k : AccessKind). failing_access r.head r.events (record { number = n; p = p; kind = k; la = la; outcome = outcomes.Fault code }) ws) (flags_are_told.kind kind) ∙ good)
 
 -- a present entry: an assist, or what is kept of it
-used_keeps : (p : ℕ) (r : Recording) (x : Processor) (flags la : ℕ) (way : Found) → IsReading p r x flags la way → (at : Place) (ms : Option (List ℕ)) →
+used_keeps : (p : ℕ) (r : Recording) (x : Processor) (flags la : ℕ) (way : Found) → IsReading p r x flags la way → (at : WalkPosition) (ms : Option (List ℕ)) →
     Comes r.head r.events p la x.caches.control.pcid at (moments_of ms) →
     let n = length r.events in
     let value = word_at r.events la at n in
@@ -188,7 +188,7 @@ used_keeps p r x flags la way reading at ms comes k is present kept =
     (subst (λ o. IsUnderWayFor head x.caches way o) (sym reading.instruction) reading.under))
     (λ none. subst (λ (l : Kind). Keeps p r (keeps r x walk value (moments_of ms ++ n ∷ []) l)) (sym is) (kept none))
 
-read_keeps : (p : ℕ) (r : Recording) (x : Processor) (flags la : ℕ) (way : Found) → IsReading p r x flags la way → (at : Place) (ms : Option (List ℕ)) →
+read_keeps : (p : ℕ) (r : Recording) (x : Processor) (flags la : ℕ) (way : Found) → IsReading p r x flags la way → (at : WalkPosition) (ms : Option (List ℕ)) →
     Comes r.head r.events p la x.caches.control.pcid at (moments_of ms) →
     let value = word_at r.events la at (length r.events) in
     let walk : Walk = walk_at (access_kind flags) la at ms in

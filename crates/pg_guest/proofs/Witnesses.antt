@@ -13,10 +13,10 @@ use Rattle.pg_event.specs.Values.{mem_at, control_at}
 use Rattle.pg_event.specs.Walk.{Reading, readings, entry_address}
 use Rattle.pg_event.specs.Wants.{is_wanted}
 use Rattle.pg_event.specs.Witness.{Asked, asked_by, asked_of, leads_to, is_in_order, is_one_context, last_or, structures_survive, tables_accessed, failing_walk, failing_end, failing_flags, failing_claim, failing_update, is_updated, failing_access, failing_assist}
-use Rattle.pg_guest.specs.Home.{Place, at_root, word_at, place_below, Along, FromRoot}
+use Rattle.pg_guest.specs.Home.{WalkPosition, at_root, word_at, position_below, Along, FromRoot}
 
--- what a walk reads at a place
-abbrev pub reading_at : List Event → ℕ → Place → ℕ → Reading
+-- what a walk reads at a position
+abbrev pub reading_at : List Event → ℕ → WalkPosition → ℕ → Reading
 reading_at events la at w = record {
   level = at.level;
   address = entry_address at.table at.level la;
@@ -26,18 +26,18 @@ reading_at events la at w = record {
 }
 
 -- the last reading of a walk that is asked for
-pub record IsLast (head : Head) (es : List Event) (asked : Asked) (pcid : ℕ) (Q : Reading → Type 0) (at : Place) (w : ℕ) : Type 0 where
+pub record IsLast (head : Head) (es : List Event) (asked : Asked) (pcid : ℕ) (Q : Reading → Type 0) (at : WalkPosition) (w : ℕ) : Type 0 where
   pub order : w ≤ asked.number
   pub own : (control_at head es asked.p w).pcid ≡ pcid
   pub wanted : is_wanted asked.want (kind_of head.cfg at.level (word_at es asked.la at w)) ≡ true
   pub ends : Q (reading_at es asked.la at w)
 
 -- what it reads after its first moment
-abbrev rest_of : Head → List Event → ℕ → Place → ℕ → List ℕ → List Reading
+abbrev rest_of : Head → List Event → ℕ → WalkPosition → ℕ → List ℕ → List Reading
 rest_of head es la at w ws =
-    let to : Place = place_below head.cfg.m es la at w in readings head.cfg.m (mem_at es) la to.level to.table to.rights ws
+    let to : WalkPosition = position_below head.cfg.m es la at w in readings head.cfg.m (mem_at es) la to.level to.table to.rights ws
 
-record Holds (head : Head) (es : List Event) (asked : Asked) (pcid : ℕ) (Q : Reading → Type 0) (at : Place) (w : ℕ) (ws : List ℕ) : Type 0 where
+record Holds (head : Head) (es : List Event) (asked : Asked) (pcid : ℕ) (Q : Reading → Type 0) (at : WalkPosition) (w : ℕ) (ws : List ℕ) : Type 0 where
   order : is_in_order (w ∷ ws) asked.number ≡ true
   leads : leads_to head.cfg asked.want (reading_at es asked.la at w ∷ rest_of head es asked.la at w ws) ≡ true
   context : is_one_context head es asked.p pcid (w ∷ ws) ≡ true
@@ -53,7 +53,7 @@ both_used : (judged a b : Bool) → (not judged || a) ≡ true → (not judged |
 both_used true a b h k = and_from a b h k
 both_used false a b h k = refl
 
-holds : (head : Head) (es : List Event) (asked : Asked) (pcid : ℕ) (Q : Reading → Type 0) (at : Place) (w : ℕ) (ws : List ℕ) →
+holds : (head : Head) (es : List Event) (asked : Asked) (pcid : ℕ) (Q : Reading → Type 0) (at : WalkPosition) (w : ℕ) (ws : List ℕ) →
     Along head es asked.p asked.la pcid (IsLast head es asked pcid Q) at w ws → Holds head es asked pcid Q at w ws
 holds head es asked pcid Q at w [] h = record {
   order = le-leb w asked.number h.order;
@@ -64,7 +64,7 @@ holds head es asked pcid Q at w [] h = record {
   ends = h.ends;
 }
 holds head es asked pcid Q at w (x ∷ ws) h =
-    let to : Place = place_below head.cfg.m es asked.la at w in
+    let to : WalkPosition = position_below head.cfg.m es asked.la at w in
     let rest = holds head es asked pcid Q to x ws h.1 in record {
       order = and_from _ _ (le-leb w x h.0.order) rest.order;
       leads = and_from _ _ h.0.table rest.leads;
@@ -82,7 +82,7 @@ pub or_none : {X : Type 0} (a b : Option X) → a ≡ None → b ≡ None → op
 or_none None b h k = k
 or_none (Some x) b h k = absurd (cc)
 
-walk_holds : (head : Head) (es : List Event) (asked : Asked) (pcid : ℕ) (Q : Reading → Type 0) (at : Place) (w : ℕ) (ws : List ℕ) → Holds head es asked pcid Q at w ws →
+walk_holds : (head : Head) (es : List Event) (asked : Asked) (pcid : ℕ) (Q : Reading → Type 0) (at : WalkPosition) (w : ℕ) (ws : List ℕ) → Holds head es asked pcid Q at w ws →
     failing_walk head es asked pcid (w ∷ ws) (reading_at es asked.la at w ∷ rest_of head es asked.la at w ws) ≡ None
 walk_holds head es asked pcid Q at w ws all =
     let rs : List Reading = reading_at es asked.la at w ∷ rest_of head es asked.la at w ws in
@@ -91,7 +91,7 @@ walk_holds head es asked pcid Q at w ws all =
     (passed (is_one_context head es asked.p pcid (w ∷ ws)) reasons.Context _ all.context
     (passed (structures_survive head es asked.p pcid asked.la rs) reasons.StructureDropped None all.structures refl)))
 
-first_own : (head : Head) (es : List Event) (asked : Asked) (pcid : ℕ) (Q : Reading → Type 0) (at : Place) (w : ℕ) (ws : List ℕ) →
+first_own : (head : Head) (es : List Event) (asked : Asked) (pcid : ℕ) (Q : Reading → Type 0) (at : WalkPosition) (w : ℕ) (ws : List ℕ) →
     Along head es asked.p asked.la pcid (IsLast head es asked pcid Q) at w ws → (control_at head es asked.p w).pcid ≡ pcid
 first_own head es asked pcid Q at w [] h = h.own
 first_own head es asked pcid Q at w (x ∷ ws) h = h.0.own
@@ -105,7 +105,7 @@ pub access_witnessed : (head : Head) (es : List Event) (c : Claim) (pcid : ℕ) 
     FromRoot head es c.p c.la pcid (IsLast head es (asked_by c) pcid (IsServed head es c pcid)) ws → failing_access head es c ws ≡ None
 access_witnessed head es c pcid [] h = absurd h
 access_witnessed head es c pcid (w ∷ ws) h =
-    let at : Place = at_root (control_at head es c.p w) in
+    let at : WalkPosition = at_root (control_at head es c.p w) in
     let Q : Reading → Type 0 = IsServed head es c pcid in
     let r : Reading = reading_at es c.la at w in
     let rs : List Reading = rest_of head es c.la at w ws in
@@ -128,7 +128,7 @@ pub assist_witnessed : (head : Head) (es : List Event) (u : Update) (pcid : ℕ)
     FromRoot head es u.p u.la pcid (IsLast head es (asked_of u) pcid (λ r. is_updated head.cfg u r ≡ true)) ws → failing_assist head es u ws ≡ None
 assist_witnessed head es u pcid [] judged h = absurd h
 assist_witnessed head es u pcid (w ∷ ws) judged h =
-    let at : Place = at_root (control_at head es u.p w) in
+    let at : WalkPosition = at_root (control_at head es u.p w) in
     let Q : Reading → Type 0 = λ r. is_updated head.cfg u r ≡ true in
     let r : Reading = reading_at es u.la at w in
     let rs : List Reading = rest_of head es u.la at w ws in

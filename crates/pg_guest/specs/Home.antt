@@ -36,32 +36,31 @@ use Rattle.pg_guest.specs.Turn.{Processor}
 
 -- ---- a walk by moments, link by link
 
--- a place that a walk comes to: the level that it reads next, in which table, with the rights so
--- far
-pub record Place : Type 0 where
+-- how far a walk has come: the level that it reads next, in which table, with the rights so far
+pub record WalkPosition : Type 0 where
   pub level : Level
   pub table : ℕ
   pub rights : Rights
 
--- the place that a walk begins at (Intel SDM, vol. 3, 4.5)
-abbrev pub at_root : Control → Place
+-- the position that a walk begins at (Intel SDM, vol. 3, 4.5)
+abbrev pub at_root : Control → WalkPosition
 at_root c = record { level = Four; table = (root_of c).table; rights = (root_of c).rights }
 
 -- the word that a walk for an address reads there at a moment
-abbrev pub word_at : List Event → ℕ → Place → ℕ → ℕ
+abbrev pub word_at : List Event → ℕ → WalkPosition → ℕ → ℕ
 word_at events la at w = mem_at events w (entry_address at.table at.level la)
 
--- the place that this word leads to
-abbrev pub place_below : ℕ → List Event → ℕ → Place → ℕ → Place
-place_below m events la at w = record {
+-- the position that this word leads to
+abbrev pub position_below : ℕ → List Event → ℕ → WalkPosition → ℕ → WalkPosition
+position_below m events la at w = record {
   level = below at.level;
   table = table_of m (word_at events la at w);
   rights = joined at.rights (word_at events la at w);
 }
 
--- what a walk of p reads at a place at moment w is a table, read under this PCID, and its
+-- what a walk of p reads at a position at moment w is a table, read under this PCID, and its
 -- paging-structure-cache entry stands up to moment x (4.10.3)
-pub record IsLink (head : Head) (events : List Event) (p la pcid : ℕ) (at : Place) (w x : ℕ)
+pub record IsLink (head : Head) (events : List Event) (p la pcid : ℕ) (at : WalkPosition) (w x : ℕ)
     : Type 0 where
   pub table : is_table (kind_of head.cfg at.level (word_at events la at w)) ≡ true
   pub usable : may_cache head.version (word_at events la at w) ≡ true
@@ -70,18 +69,18 @@ pub record IsLink (head : Head) (events : List Event) (p la pcid : ℕ) (at : Pl
   pub stands : survives head events p
       (λ c e. must_drop_structure c e (structure_key pcid at.level la)) w x ≡ true
 
--- a walk from a place, by moment w and then the others, reads tables that stand up to the next
+-- a walk from a position, by moment w and then the others, reads tables that stand up to the next
 -- moment, and ends so at the last
-abbrev pub Along : Head → List Event → ℕ → ℕ → ℕ → (Place → ℕ → Type 0) →
-    Place → ℕ → List ℕ → Type 0
+abbrev pub Along : Head → List Event → ℕ → ℕ → ℕ → (WalkPosition → ℕ → Type 0) →
+    WalkPosition → ℕ → List ℕ → Type 0
 Along head events p la pcid Ends at w [] = Ends at w
 Along head events p la pcid Ends at w (x ∷ ws) =
     IsLink head events p la pcid at w x
-    × Along head events p la pcid Ends (place_below head.cfg.m events la at w) x ws
+    × Along head events p la pcid Ends (position_below head.cfg.m events la at w) x ws
 
 -- a walk from the root by moments, of which there is one at least, ends so
 abbrev pub FromRoot :
-    Head → List Event → ℕ → ℕ → ℕ → (Place → ℕ → Type 0) → List ℕ → Type 0
+    Head → List Event → ℕ → ℕ → ℕ → (WalkPosition → ℕ → Type 0) → List ℕ → Type 0
 FromRoot head events p la pcid Ends [] = ⊥
 FromRoot head events p la pcid Ends (w ∷ ws) =
     Along head events p la pcid Ends (at_root (control_at head events p w)) w ws
@@ -90,16 +89,16 @@ FromRoot head events p la pcid Ends (w ∷ ws) =
 
 -- a walk ends with the table that is kept, which stands since
 pub record EndsInTable (head : Head) (events : List Event) (p la : ℕ) (key : StructureKey)
-    (kept : KeptTable) (at : Place) (w : ℕ) : Type 0 where
+    (kept : KeptTable) (at : WalkPosition) (w : ℕ) : Type 0 where
   pub link : IsLink head events p la key.pcid at w (length events)
   pub level_is : at.level ≡ key.level
-  pub place_is : place_below head.cfg.m events la at w
+  pub position_is : position_below head.cfg.m events la at w
       ≡ record { level = below key.level; table = kept.table; rights = kept.rights }
 
 -- a walk ends with the page that is kept, which stands since: for every PCID where its leaf had G
 -- and CR4.PGE was 1 when it was read, else for the PCID of the walk (4.10.2.4)
 pub record EndsInLeaf (head : Head) (events : List Event) (p la pcid : ℕ) (key : TranslationKey)
-    (kept : KeptLeaf) (at : Place) (w : ℕ) : Type 0 where
+    (kept : KeptLeaf) (at : WalkPosition) (w : ℕ) : Type 0 where
   pub global_bit : Bool
   pub leaf : kind_of head.cfg at.level (word_at events la at w)
       ≡ kinds.Leaf kept.frame key.shift global_bit

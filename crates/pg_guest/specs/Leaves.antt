@@ -18,7 +18,7 @@ abbrev pub TurnsLeave : Type 0
 TurnsLeave = (p : ℕ) (r : Recording) (x : Processor) (t : Turned) →
     IsTurn p r x t → Leaves r t.world x t.processor
 
--- the same stays of a record and of all processors, which stay as many
+-- what `Leaves` says of one processor holds of each, and they stay as many
 pub record LeaveAll (old new : Recording) (xs ys : List Processor) : Type 0 where
   pub head : new.head ≡ old.head
   pub taken : new.taken ≡ old.taken

@@ -7,8 +7,8 @@ use Rattle.pg_entry.specs.declared.Level.{Level}
 use Rattle.pg_entry.specs.declared.Level.TheVariants.{Four, Three, Two, One}
 use Rattle.pg_event.specs.Invalidation.{level_shift, bits_from}
 use Rattle.pg_event.specs.Walk.{below}
-use Rattle.pg_shadow.specs.declared.slot.Kept.{Kept}
-use Rattle.pg_shadow.specs.declared.slot.Kept.TheVariants.{Neither}
+use Rattle.pg_shadow.specs.declared.slot.KeptEntry.{KeptEntry}
+use Rattle.pg_shadow.specs.declared.slot.KeptEntry.TheVariants.{Neither}
 use Rattle.pg_shadow.specs.declared.slot.Slot.{Slot}
 use Rattle.pg_shadow.specs.declared.page.Place.{Place}
 use Rattle.pg_shadow.specs.Slots.{no_slot, with_kept, bare}
@@ -152,10 +152,10 @@ is_place old j i k n h =
 
 -- ---- an entry kept in a place
 
-abbrev pub kept_place : List Sheet → ℕ → ℕ → Kept → Place
+abbrev pub kept_place : List Sheet → ℕ → ℕ → KeptEntry → Place
 kept_place pages j i kept = let place : Place = place_in pages j i in record place { slot = with_kept kept place.slot }
 
-SameTree-kept : (old new : List Sheet) (j i : ℕ) (kept : Kept) → IsPlaced old new j i (kept_place old j i kept) → SameTree old new
+SameTree-kept : (old new : List Sheet) (j i : ℕ) (kept : KeptEntry) → IsPlaced old new j i (kept_place old j i kept) → SameTree old new
 SameTree-kept old new j i kept placed = record {
   count = placed.count;
   levels = placed.levels;
@@ -165,36 +165,36 @@ SameTree-kept old new j i kept placed = record {
       ∙ cond_same (λ (p : Place). p.below) (nat_eq j k && nat_eq i n) (kept_place old j i kept) (place_in old k n) (λ e. ap (λ (p : Place). p.below) (is_place old j i k n e));
 }
 
-slot_either : (b : Bool) (kept : Kept) (p q : Place) → (b ≡ true → q ≡ p) → (cond b (record q { slot = with_kept kept q.slot }) p).slot ≡ cond b (with_kept kept p.slot) p.slot
+slot_either : (b : Bool) (kept : KeptEntry) (p q : Place) → (b ≡ true → q ≡ p) → (cond b (record q { slot = with_kept kept q.slot }) p).slot ≡ cond b (with_kept kept p.slot) p.slot
 slot_either true kept p q h = ap (λ (r : Place). with_kept kept r.slot) (h refl)
 slot_either false kept p q h = refl
 
-slot-kept : (old new : List Sheet) (j i k n : ℕ) (kept : Kept) → IsPlaced old new j i (kept_place old j i kept) → (place_in new k n).slot ≡ cond (nat_eq j k && nat_eq i n) (with_kept kept (place_in old k n).slot) (place_in old k n).slot
+slot-kept : (old new : List Sheet) (j i k n : ℕ) (kept : KeptEntry) → IsPlaced old new j i (kept_place old j i kept) → (place_in new k n).slot ≡ cond (nat_eq j k && nat_eq i n) (with_kept kept (place_in old k n).slot) (place_in old k n).slot
 slot-kept old new j i k n kept placed =
     ap (λ (p : Place). p.slot) (placed.places k n)
     ∙ slot_either (nat_eq j k && nat_eq i n) kept (place_in old k n) (place_in old j i) (is_place old j i k n)
 
 -- the slot of a page that is found, or of none
-slot_here : (old new : List Sheet) (j i n : ℕ) (kept : Kept) (o : Option ℕ) → IsPlaced old new j i (kept_place old j i kept)
+slot_here : (old new : List Sheet) (j i n : ℕ) (kept : KeptEntry) (o : Option ℕ) → IsPlaced old new j i (kept_place old j i kept)
     → (o ≡ Some j) × (nat_eq i n ≡ true) → (place_of new o n).slot ≡ with_kept kept (place_of old o n).slot
 slot_here old new j i n kept o placed mine =
     let P : Option ℕ → Type 0 = λ v. (place_of new v n).slot ≡ with_kept kept (place_of old v n).slot in
     let together : (nat_eq j j && nat_eq i n) ≡ true = and_from (nat_eq j j) (nat_eq i n) (eq-eqb j j refl) mine.1 in
     subst P (sym mine.0) (slot-kept old new j i j n kept placed ∙ ap (λ b. cond b (with_kept kept (place_in old j n).slot) (place_in old j n).slot) together)
 
-slot_elsewhere : (old new : List Sheet) (j i n : ℕ) (kept : Kept) (o : Option ℕ) → IsPlaced old new j i (kept_place old j i kept)
+slot_elsewhere : (old new : List Sheet) (j i n : ℕ) (kept : KeptEntry) (o : Option ℕ) → IsPlaced old new j i (kept_place old j i kept)
     → ((k : ℕ) → o ≡ Some k → (nat_eq j k && nat_eq i n) ≡ false) → (place_of new o n).slot ≡ (place_of old o n).slot
 slot_elsewhere old new j i n kept None placed others = refl
 slot_elsewhere old new j i n kept (Some k) placed others =
     slot-kept old new j i k n kept placed ∙ ap (λ b. cond b (with_kept kept (place_in old k n).slot) (place_in old k n).slot) (others k refl)
 
-found_slot : (old new : List Sheet) (j i n : ℕ) (kept : Kept) (o : Option ℕ) (b : Bool) → IsPlaced old new j i (kept_place old j i kept)
+found_slot : (old new : List Sheet) (j i n : ℕ) (kept : KeptEntry) (o : Option ℕ) (b : Bool) → IsPlaced old new j i (kept_place old j i kept)
     → (b ≡ true → (o ≡ Some j) × (nat_eq i n ≡ true)) → (b ≡ false → (k : ℕ) → o ≡ Some k → (nat_eq j k && nat_eq i n) ≡ false)
     → (place_of new o n).slot ≡ cond b (with_kept kept (place_of old o n).slot) (place_of old o n).slot
 found_slot old new j i n kept o true placed mine others = slot_here old new j i n kept o placed (mine refl)
 found_slot old new j i n kept o false placed mine others = slot_elsewhere old new j i n kept o placed (others refl)
 
-Keeps-placed : (old new : List Sheet) (level : Level) (number j : ℕ) (kept : Kept) → IsTree old → page_at old level (number / 512) ≡ Some j → IsPlaced old new j (number % 512) (kept_place old j (number % 512) kept) → Keeps old new level number kept
+Keeps-placed : (old new : List Sheet) (level : Level) (number j : ℕ) (kept : KeptEntry) → IsTree old → page_at old level (number / 512) ≡ Some j → IsPlaced old new j (number % 512) (kept_place old j (number % 512) kept) → Keeps old new level number kept
 unfolding slot_in
 Keeps-placed old new level number j kept tree at placed = record {
   at = λ l n.
@@ -232,20 +232,20 @@ read_at pages j i page r = r.read ∙ get_or_default pages j page no_page r.with
 placed_at : (pages : List Sheet) (j i : ℕ) (page : Sheet) (p : Place) → IsRead pages j i page → IsPlaced pages (set pages j (with_place page i p)) j i p
 placed_at pages j i page p r = IsPlaced-set pages j i page p r.within (omega (arith, r.full, r.index)) (read_at pages j i page r)
 
-abbrev pub kept_in : Sheet → ℕ → Kept → Sheet
+abbrev pub kept_in : Sheet → ℕ → KeptEntry → Sheet
 kept_in page i kept = let place : Place = get_or page.places i no_place in with_place page i (record place { slot = with_kept kept place.slot })
 
-kept_in-placed : (pages : List Sheet) (j i : ℕ) (page : Sheet) (kept : Kept) → IsRead pages j i page → IsPlaced pages (set pages j (kept_in page i kept)) j i (kept_place pages j i kept)
+kept_in-placed : (pages : List Sheet) (j i : ℕ) (page : Sheet) (kept : KeptEntry) → IsRead pages j i page → IsPlaced pages (set pages j (kept_in page i kept)) j i (kept_place pages j i kept)
 kept_in-placed pages j i page kept r =
     let place : Sheet → Place = λ s. get_or s.places i no_place in
     let P : Sheet → Type 0 = λ s. IsPlaced pages (set pages j (kept_in page i kept)) j i (record (place s) { slot = with_kept kept (place s).slot }) in
     subst P (read_at pages j i page r) (placed_at pages j i page _ r)
 
-pub IsTree-kept : (pages : List Sheet) (j i : ℕ) (page : Sheet) (kept : Kept) → IsTree pages → IsRead pages j i page → IsTree (set pages j (kept_in page i kept))
+pub IsTree-kept : (pages : List Sheet) (j i : ℕ) (page : Sheet) (kept : KeptEntry) → IsTree pages → IsRead pages j i page → IsTree (set pages j (kept_in page i kept))
 IsTree-kept pages j i page kept tree r =
     IsTree-same pages (set pages j (kept_in page i kept)) (SameTree-kept pages _ j i kept (kept_in-placed pages j i page kept r)) tree
 
-pub Keeps-kept : (first pages : List Sheet) (level : Level) (number j : ℕ) (page : Sheet) (kept : Kept) → IsSame first pages → IsTree pages → page_at pages level (number / 512) ≡ Some j → IsRead pages j (number % 512) page → Keeps first (set pages j (kept_in page (number % 512) kept)) level number kept
+pub Keeps-kept : (first pages : List Sheet) (level : Level) (number j : ℕ) (page : Sheet) (kept : KeptEntry) → IsSame first pages → IsTree pages → page_at pages level (number / 512) ≡ Some j → IsRead pages j (number % 512) page → Keeps first (set pages j (kept_in page (number % 512) kept)) level number kept
 Keeps-kept first pages level number j page kept same tree at r =
     let keeps = Keeps-placed pages (set pages j (kept_in page (number % 512) kept)) level number j kept tree at (kept_in-placed pages j (number % 512) page kept r) in
     record { at = λ l n. keeps.at l n ∙ ap (λ s. cond (is_slot level number l n) (with_kept kept s) s) (same.at l n) }

@@ -18,7 +18,7 @@ use Rattle.pg_event.specs.Meaning.{takes_structure, takes_translation}
 use Rattle.pg_shadow.specs.declared.entries.KeptTable.{KeptTable}
 use Rattle.pg_shadow.specs.declared.entries.KeptLeaf.{KeptLeaf}
 use Rattle.pg_shadow.specs.declared.slot.Slot.{Slot}
-use Rattle.pg_shadow.specs.declared.slot.Kept.TheVariants.{Table, Leaf}
+use Rattle.pg_shadow.specs.declared.slot.KeptEntry.TheVariants.{Table, Leaf}
 use Rattle.pg_shadow.specs.Caches.{Caches, empty, with_table, with_leaf, after, is_page_shift}
 use Rattle.pg_shadow.specs.Find.{chosen, found}
 use Rattle.pg_shadow.specs.Slots.{no_slot, with_kept, left_in}

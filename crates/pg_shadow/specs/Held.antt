@@ -8,7 +8,7 @@ use Rattle.pg_event.specs.declared.control.Control.{Control}
 use Rattle.pg_event.specs.declared.invalidation.Invalidation.{Invalidation}
 use Rattle.pg_event.specs.Invalidation.{level_shift}
 use Rattle.pg_shadow.specs.declared.slot.Slot.{Slot}
-use Rattle.pg_shadow.specs.declared.slot.Kept.{Kept}
+use Rattle.pg_shadow.specs.declared.slot.KeptEntry.{KeptEntry}
 use Rattle.pg_shadow.specs.Caches.{Caches}
 use Rattle.pg_shadow.specs.Slots.{with_kept}
 use Rattle.pg_shadow.specs.Left.{left_own, global_goes}
@@ -40,7 +40,7 @@ level_of shift = if shift == 30 then Three else if shift == 21 then Two else One
 
 -- under one PCID one slot has an entry more, and the others are as they were
 pub record KeepsOwn (old new : List (ℕ × (List Sheet))) (pcid : ℕ) (level : Level) (number : ℕ)
-    (kept : Kept) : Type 0 where
+    (kept : KeptEntry) : Type 0 where
   pub at : (q : ℕ) (l : Level) (n : ℕ) → let before = slot_in (space_of old q) l n in
       slot_in (space_of new q) l n
       ≡ (if pcid == q && level_shift level == level_shift l && number == n

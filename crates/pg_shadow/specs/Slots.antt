@@ -6,14 +6,14 @@ use Rattle.pg_event.specs.declared.control.Control.{Control}
 use Rattle.pg_event.specs.Invalidation.{level_shift}
 use Rattle.pg_event.specs.Invalidation.{must_drop_structure, must_drop_translation}
 use Rattle.pg_shadow.specs.declared.slot.Slot.{Slot}
-use Rattle.pg_shadow.specs.declared.slot.Kept.{Kept}
-use Rattle.pg_shadow.specs.declared.slot.Kept.TheVariants.{Table, Leaf, Neither}
+use Rattle.pg_shadow.specs.declared.slot.KeptEntry.{KeptEntry}
+use Rattle.pg_shadow.specs.declared.slot.KeptEntry.TheVariants.{Table, Leaf, Neither}
 
 abbrev pub no_slot : Slot
 no_slot = record { structure = None; translation = None }
 
 -- a slot with one entry more, in place of what it had; or with none
-abbrev pub with_kept : Kept → Slot → Slot
+abbrev pub with_kept : KeptEntry → Slot → Slot
 with_kept (Table t) s = record s { structure = Some t }
 with_kept (Leaf l) s = record s { translation = Some l }
 with_kept Neither s = no_slot

@@ -7,7 +7,7 @@ use Rattle.pg_entry.specs.declared.Level.TheVariants.{Four, Three, Two, One}
 use Rattle.pg_event.specs.Invalidation.{level_shift, bits_from}
 use Rattle.pg_shadow.specs.declared.entries.KeptLeaf.{KeptLeaf}
 use Rattle.pg_shadow.specs.declared.slot.Slot.{Slot}
-use Rattle.pg_shadow.specs.declared.slot.Kept.{Kept}
+use Rattle.pg_shadow.specs.declared.slot.KeptEntry.{KeptEntry}
 use Rattle.pg_shadow.specs.declared.slot.Path.{Path}
 use Rattle.pg_shadow.specs.Slots.{no_slot, with_kept, bare}
 use Rattle.pg_shadow.specs.Left.{is_on_path}
@@ -42,7 +42,8 @@ abbrev pub is_slot : Level → ℕ → Level → ℕ → Bool
 is_slot level number l n = level_shift level == level_shift l && number == n
 
 -- one slot has an entry more, and the others are as they were
-pub record Keeps (old new : List Sheet) (level : Level) (number : ℕ) (kept : Kept) : Type 0 where
+pub record Keeps (old new : List Sheet) (level : Level) (number : ℕ) (kept : KeptEntry) :
+    Type 0 where
   pub at : (l : Level) (n : ℕ) → slot_in new l n
       ≡ (if is_slot level number l n then with_kept kept (slot_in old l n) else slot_in old l n)
 

@@ -4,7 +4,7 @@ ghost use Rattle.std.specs.Prelude.{slice_index_or};
 ghost use Rattle.pg_shadow.specs.Slots.{with_kept};
 ghost use Rattle.pg_shadow.specs.Pages.{no_place, bare_place, empty_page, IsBarePage};
 
-use crate::slot::{Kept, Slot};
+use crate::slot::{KeptEntry, Slot};
 use pg_entry::Level;
 use pg_timeline::Probes;
 use std::alloc::{AllocError, Global};
@@ -98,7 +98,7 @@ impl Page {
     }
 
     /// Keeps an entry at an index.
-    pub(crate) fn keep(&mut self, index: usize, kept: &Kept)
+    pub(crate) fn keep(&mut self, index: usize, kept: &KeptEntry)
         requires { index < 512 }
         ensures full { length self.old.places ≡ 512 }
         ensures kept { let place = slice_index_or self.old.places index no_place in
@@ -107,7 +107,7 @@ impl Page {
                   (record place { slot = with_kept kept.now place.slot });
             } }
     {
-        if let Kept::Table(_) = kept {
+        if let KeptEntry::Table(_) = kept {
             self.first = self.first.min(index);
             self.end = self.end.max(index + 1);
         }

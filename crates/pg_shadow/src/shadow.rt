@@ -19,7 +19,7 @@ ghost use Rattle.pg_shadow.specs.Held.{IsLeftGlobals, IsChangedOwn};
 
 use crate::entries::{Found, KeptLeaf, KeptTable};
 use crate::lookup::chosen;
-use crate::slot::{Kept, Path};
+use crate::slot::{KeptEntry, Path};
 use crate::space::Space;
 use pg_entry::{AccessKind, Level};
 use pg_event::{
@@ -99,7 +99,7 @@ fn keep_own(
     pcid: u16,
     level: Level,
     number: u64,
-    kept: &Kept,
+    kept: &KeptEntry,
 ) -> Result<(), AllocError>
     requires { number < 2 ^ (48 - level_shift level) }
     ensures ok { OnOk result
@@ -283,7 +283,7 @@ impl Shadow {
             pcid,
             level,
             number,
-            &Kept::Table(kept),
+            &KeptEntry::Table(kept),
         )
     }
 
@@ -311,7 +311,7 @@ impl Shadow {
         let number = bits_from(shift, la);
         let pcid = self.control.pcid;
         if is_global(self.control, global_bit) {
-            self.globals.keep(level, number, &Kept::Leaf(kept))
+            self.globals.keep(level, number, &KeptEntry::Leaf(kept))
         } else {
             keep_own(
                 &mut self.own,
@@ -319,7 +319,7 @@ impl Shadow {
                 pcid,
                 level,
                 number,
-                &Kept::Leaf(kept),
+                &KeptEntry::Leaf(kept),
             )
         }
     }

@@ -11,9 +11,9 @@ pub(crate) struct Slot {
     pub translation: Option<KeptLeaf>,
 }
 
-/// What is to be kept.
+/// The entry that a slot is to keep, or none.
 #[derive(Clone, Copy)]
-pub(crate) enum Kept {
+pub(crate) enum KeptEntry {
     Table(KeptTable),
     Leaf(KeptLeaf),
     /// Nothing: the slot is emptied.
@@ -45,13 +45,13 @@ impl Slot {
     };
 
     /// Keeps an entry, in place of what there was of its sort; or empties the slot.
-    pub(crate) fn keep(&mut self, kept: &Kept)
+    pub(crate) fn keep(&mut self, kept: &KeptEntry)
         ensures { self.new ≡ with_kept kept.now self.old }
     {
         match *kept {
-            Kept::Table(table) => self.structure = Some(table),
-            Kept::Leaf(leaf) => self.translation = Some(leaf),
-            Kept::Neither => *self = Slot::EMPTY,
+            KeptEntry::Table(table) => self.structure = Some(table),
+            KeptEntry::Leaf(leaf) => self.translation = Some(leaf),
+            KeptEntry::Neither => *self = Slot::EMPTY,
         }
     }
 

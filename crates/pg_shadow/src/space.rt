@@ -2,14 +2,14 @@ ghost use Rattle.std.specs.Prelude.{◌≡◌, ◌+◌, ◌-◌, ◌*◌, ◌/�
 ghost use Rattle.std.specs.Prelude.{OnOk, OnErr, length, slice_index_or, Some, None};
 ghost use Rattle.pg_entry.specs.declared.Level.TheVariants as levels;
 ghost use Rattle.pg_event.specs.Invalidation.{level_shift};
-ghost use Rattle.pg_shadow.specs.declared.slot.Kept.TheVariants.{Neither};
+ghost use Rattle.pg_shadow.specs.declared.slot.KeptEntry.TheVariants.{Neither};
 ghost use Rattle.pg_shadow.specs.Pages.{place_of, page_at, no_page, IsBarePage};
 ghost use Rattle.pg_shadow.specs.Spaces.{slot_in, path_in, Keeps, IsSame, IsForgotten};
 ghost use Rattle.pg_shadow.specs.Spaces.{IsBared, nothing, IsAbove, HasPage};
 ghost use Rattle.pg_shadow.specs.Slots.{no_slot};
 
 use crate::page::{Page, Place};
-use crate::slot::{Kept, Path};
+use crate::slot::{KeptEntry, Path};
 use pg_entry::Level;
 use pg_event::bits_from;
 use pg_timeline::Probes;
@@ -208,7 +208,12 @@ impl Space {
 
     /// Keeps an entry in a slot. Fails where memory is refused, and then nothing is kept; none is
     /// taken where the slot has an entry.
-    pub(crate) fn keep(&mut self, level: Level, number: u64, kept: &Kept) -> Result<(), AllocError>
+    pub(crate) fn keep(
+        &mut self,
+        level: Level,
+        number: u64,
+        kept: &KeptEntry,
+    ) -> Result<(), AllocError>
         requires { number < 2 ^ (48 - level_shift level) }
         ensures ok { OnOk result (Keeps self.old self.new level number kept.now) }
         ensures refused { OnErr result (slot_in self.old level number ≡ no_slot) }
@@ -230,7 +235,7 @@ impl Space {
             Some(j) => {
                 if j < self.pages.len() {
                     let page = &mut self.pages[j];
-                    page.keep(index_of(number), &Kept::Neither);
+                    page.keep(index_of(number), &KeptEntry::Neither);
                 }
             }
         }

@@ -1,6 +1,6 @@
 use Rattle.std.proofs.Common.{ℕ, ◌-◌, ◌^◌, Option, subst, arith}
 use Rattle.pg_inval.specs.Lists.{IsLeastBetween}
-use Rattle.pg_chain.proofs.Stays.{none-below, some-below, late-below}
+use Rattle.pg_chain.proofs.Below.{none-below, some-below, late-below}
 use Rattle.pg_chain.proofs.reader.below.Goals as goal
 
 pub returns-then-number-to : goal.returns-then-number-to

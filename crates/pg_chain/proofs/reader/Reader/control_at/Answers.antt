@@ -3,8 +3,8 @@ use Rattle.pg_chain.specs.declared.past.Past.{Past}
 use Rattle.pg_chain.specs.Standing.{IsPast}
 use Rattle.pg_chain.proofs.reader.Reader.control_at.Goals as goal
 
-pub keep_spell-requires : goal.keep_spell-requires
-keep_spell-requires c = record {
+pub keep_control_span-requires : goal.keep_control_span-requires
+keep_control_span-requires c = record {
   root = c.control_span-span.ensures.root;
   same = λ head events h w low high.
       (c.control_span-span.ensures.run head events h).same w low high;

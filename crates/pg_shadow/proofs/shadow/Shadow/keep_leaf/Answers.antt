@@ -3,7 +3,7 @@ use Rattle.std.proofs.lemmas.Result.{on_ok_weaker, on_err_weaker}
 use Rattle.pg_event.specs.Invalidation.{bits_from}
 use Rattle.pg_entry.specs.declared.Level.{Level}
 use Rattle.pg_event.specs.declared.keys.TranslationKey.{TranslationKey}
-use Rattle.pg_shadow.specs.declared.slot.Kept.TheVariants.{Leaf}
+use Rattle.pg_shadow.specs.declared.slot.KeptEntry.TheVariants.{Leaf}
 use Rattle.pg_shadow.specs.Spaces.{slot_in, Keeps}
 use Rattle.pg_shadow.specs.Caches.{AreInRange, IsPageAt, with_leaf}
 use Rattle.pg_shadow.specs.Held.{Held, seen, space_of, KeepsOwn}

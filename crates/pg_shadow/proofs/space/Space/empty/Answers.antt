@@ -1,5 +1,5 @@
 use Rattle.std.proofs.Common.{◌≡◌, ◌<◌, ◌≤◌, ◌/◌, ◌%◌, length, Some, List, refl, ap, sym, ◌∙◌, arith}
-use Rattle.pg_shadow.specs.declared.slot.Kept.TheVariants.{Neither}
+use Rattle.pg_shadow.specs.declared.slot.KeptEntry.TheVariants.{Neither}
 use Rattle.pg_shadow.specs.Pages.{Sheet, page_at}
 use Rattle.pg_shadow.proofs.Pages.{IsRead, IsTree-kept, Keeps-kept, Keeps-empty, slot_in-missing, slot_in-beyond}
 use Rattle.pg_shadow.proofs.space.Space.empty.Goals as goal

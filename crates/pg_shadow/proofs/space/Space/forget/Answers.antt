@@ -1,7 +1,7 @@
 use Rattle.std.proofs.Common.{ℕ, subst, List}
 use Rattle.pg_entry.specs.declared.Level.{Level}
 use Rattle.pg_entry.specs.declared.Level.TheVariants.{Four, Three, Two, One}
-use Rattle.pg_shadow.specs.declared.slot.Kept.TheVariants.{Neither}
+use Rattle.pg_shadow.specs.declared.slot.KeptEntry.TheVariants.{Neither}
 use Rattle.pg_shadow.specs.Pages.{Sheet}
 use Rattle.pg_shadow.specs.Spaces.{Keeps}
 use Rattle.pg_shadow.proofs.Pages.{IsForgotten-steps}

@@ -1,4 +1,4 @@
--- What is read now at a place that a walk comes to: it is sound where it is kept, and it proves the
+-- What is read now at a position of a walk: it is sound where it is kept, and it proves the
 -- fault or the assist that it gives.
 use Rattle.std.proofs.Common.{◌≡◌, ℕ, ◌+◌, ◌*◌, ◌==◌, Bool, List, [], ◌∷◌, ◌++◌, length, refl, ap, sym, ◌∙◌, subst, true, false, not, cond, ◌&&◌, ◌||◌, arith, Some, None}
 use Rattle.std.proofs.lemmas.Bool.{eq-eqb, eqb-true, and_from}
@@ -26,7 +26,7 @@ use Rattle.pg_event.specs.Witness.{asked_by, asked_of, failing_end, is_updated, 
 use Rattle.pg_shadow.specs.declared.entries.KeptLeaf.{KeptLeaf}
 use Rattle.pg_shadow.specs.declared.entries.KeptTable.{KeptTable}
 use Rattle.pg_shadow.specs.Caches.{same_space}
-use Rattle.pg_guest.specs.Home.{Place, at_root, word_at, place_below, Along, FromRoot, EndsInTable, EndsInLeaf, IsSoundTable, IsSoundLeaf}
+use Rattle.pg_guest.specs.Home.{WalkPosition, at_root, word_at, position_below, Along, FromRoot, EndsInTable, EndsInLeaf, IsSoundTable, IsSoundLeaf}
 use Rattle.pg_guest.proofs.Longer.{survives_now}
 use Rattle.pg_guest.proofs.Entries.{coarser, index_same, table_is, shift_is, want_of_absent, want_of_reserved}
 use Rattle.pg_guest.proofs.Keys.{space_self, and_false}
@@ -35,25 +35,25 @@ use Rattle.pg_guest.proofs.Witnesses.{reading_at, IsLast, IsServed, access_witne
 -- ---- where a walk comes to
 
 -- one more reading, at the present moment, in the table that the walk ends in
-along_on : (head : Head) (es : List Event) (p la : ℕ) (key : StructureKey) (kept : KeptTable) (Ends : Place → ℕ → Type 0) →
+along_on : (head : Head) (es : List Event) (p la : ℕ) (key : StructureKey) (kept : KeptTable) (Ends : WalkPosition → ℕ → Type 0) →
     Ends (record { level = below key.level; table = kept.table; rights = kept.rights }) (length es) →
-    (at : Place) (w : ℕ) (ws : List ℕ) → Along head es p la key.pcid (EndsInTable head es p la key kept) at w ws → Along head es p la key.pcid Ends at w (ws ++ length es ∷ [])
-along_on head es p la key kept Ends end at w [] h = (h.link, subst (λ to. Ends to (length es)) (sym h.place_is) end)
+    (at : WalkPosition) (w : ℕ) (ws : List ℕ) → Along head es p la key.pcid (EndsInTable head es p la key kept) at w ws → Along head es p la key.pcid Ends at w (ws ++ length es ∷ [])
+along_on head es p la key kept Ends end at w [] h = (h.link, subst (λ to. Ends to (length es)) (sym h.position_is) end)
 along_on head es p la key kept Ends end at w (x ∷ ws) h =
-    (h.0, along_on head es p la key kept Ends end (place_below head.cfg.m es la at w) x ws h.1)
+    (h.0, along_on head es p la key kept Ends end (position_below head.cfg.m es la at w) x ws h.1)
 
-from_root_on : (head : Head) (es : List Event) (p la : ℕ) (key : StructureKey) (kept : KeptTable) (Ends : Place → ℕ → Type 0) →
+from_root_on : (head : Head) (es : List Event) (p la : ℕ) (key : StructureKey) (kept : KeptTable) (Ends : WalkPosition → ℕ → Type 0) →
     Ends (record { level = below key.level; table = kept.table; rights = kept.rights }) (length es) →
     (ws : List ℕ) → FromRoot head es p la key.pcid (EndsInTable head es p la key kept) ws → FromRoot head es p la key.pcid Ends (ws ++ length es ∷ [])
 from_root_on head es p la key kept Ends end [] h = absurd h
 from_root_on head es p la key kept Ends end (w ∷ ws) h = along_on head es p la key kept Ends end (at_root (control_at head es p w)) w ws h
 
--- for the addresses with the key of a place, a walk by these moments comes to the place, and goes
+-- for the addresses with the key of a position, a walk by these moments comes to it, and goes
 -- on by a reading now
-abbrev pub Comes : Head → List Event → ℕ → ℕ → ℕ → Place → List ℕ → Type 1
+abbrev pub Comes : Head → List Event → ℕ → ℕ → ℕ → WalkPosition → List ℕ → Type 1
 Comes head es p la pcid at ws =
     (a : ℕ) → bits_from (level_shift at.level) a ≡ bits_from (level_shift at.level) la →
-    (Ends : Place → ℕ → Type 0) → Ends at (length es) → FromRoot head es p a pcid Ends (ws ++ length es ∷ [])
+    (Ends : WalkPosition → ℕ → Type 0) → Ends at (length es) → FromRoot head es p a pcid Ends (ws ++ length es ∷ [])
 
 pub comes_at_root : (head : Head) (es : List Event) (p la pcid : ℕ) (c : Control) → c ≡ control_at head es p (length es) → Comes head es p la pcid (at_root c) []
 comes_at_root head es p la pcid c now a same Ends end = subst (λ c. Ends (at_root c) (length es)) now end
@@ -64,13 +64,13 @@ comes_in_table head es p la pcid level kept sound a same Ends end =
     let key : StructureKey = structure_key pcid level la in
     from_root_on head es p a key kept Ends end kept.moments (sound.each a (eq-eqb _ _ (sym (coarser level a la same))))
 
-word_same : (es : List Event) (a la : ℕ) (at : Place) (w : ℕ) → bits_from (level_shift at.level) a ≡ bits_from (level_shift at.level) la → word_at es a at w ≡ word_at es la at w
+word_same : (es : List Event) (a la : ℕ) (at : WalkPosition) (w : ℕ) → bits_from (level_shift at.level) a ≡ bits_from (level_shift at.level) la → word_at es a at w ≡ word_at es la at w
 word_same es a la at w h = ap (λ i. mem_at es w (at.table + 8 * i)) (index_same at.level a la h)
 
 -- ---- what is kept
 
 -- a table that is read now and kept is sound
-pub table_now : (head : Head) (es : List Event) (p la pcid : ℕ) (at : Place) (ws : List ℕ) → (control_at head es p (length es)).pcid ≡ pcid → Comes head es p la pcid at ws →
+pub table_now : (head : Head) (es : List Event) (p la pcid : ℕ) (at : WalkPosition) (ws : List ℕ) → (control_at head es p (length es)).pcid ≡ pcid → Comes head es p la pcid at ws →
     may_cache head.version (word_at es la at (length es)) ≡ true → (addr : ℕ) → kind_of head.cfg at.level (word_at es la at (length es)) ≡ kinds.Table addr →
     IsSoundTable head es p (structure_key pcid at.level la) (record { table = addr; rights = joined at.rights (word_at es la at (length es)); moments = ws ++ length es ∷ [] })
 table_now head es p la pcid at ws own comes usable addr kind = record {
@@ -89,13 +89,13 @@ table_now head es p la pcid at ws own comes usable addr kind = record {
           stands = survives_now head es p (λ c e. must_drop_structure c e (structure_key pcid at.level a)) (length es);
         };
         level_is = refl;
-        place_is = ap (λ (v : ℕ). let to : Place = record { level = below at.level; table = table_of head.cfg.m v; rights = joined at.rights v } in to) word
-            ∙ ap (λ (v : ℕ). let to : Place = record { level = below at.level; table = v; rights = kept.rights } in to) (table_is head.cfg at.level (word_at es la at (length es)) addr kind);
+        position_is = ap (λ (v : ℕ). let to : WalkPosition = record { level = below at.level; table = table_of head.cfg.m v; rights = joined at.rights v } in to) word
+            ∙ ap (λ (v : ℕ). let to : WalkPosition = record { level = below at.level; table = v; rights = kept.rights } in to) (table_is head.cfg at.level (word_at es la at (length es)) addr kind);
       });
 }
 
 -- so is a page
-pub leaf_now : (head : Head) (es : List Event) (p la : ℕ) (c : Control) (at : Place) (ws : List ℕ) → c ≡ control_at head es p (length es) → Comes head es p la c.pcid at ws →
+pub leaf_now : (head : Head) (es : List Event) (p la : ℕ) (c : Control) (at : WalkPosition) (ws : List ℕ) → c ≡ control_at head es p (length es) → Comes head es p la c.pcid at ws →
     may_cache head.version (word_at es la at (length es)) ≡ true → (frame shift : ℕ) (g : Bool) → kind_of head.cfg at.level (word_at es la at (length es)) ≡ kinds.Leaf frame shift g →
     let value = word_at es la at (length es) in
     IsSoundLeaf head es p (translation_key c.pcid shift (g && c.pge) la) (record { frame = frame; rights = joined at.rights value; dirty = dirty value; moments = ws ++ length es ∷ [] })
@@ -143,7 +143,7 @@ abbrev faulting : List Event → ℕ → AccessKind → ℕ → ℕ → Claim
 faulting es p kind la code = record { number = length es; p = p; kind = kind; la = la; outcome = Fault code }
 
 -- an absent entry that is read now is a proof of its fault
-pub absent_now : (head : Head) (es : List Event) (p la pcid : ℕ) (kind : AccessKind) (at : Place) (ws : List ℕ) → (control_at head es p (length es)).pcid ≡ pcid → Comes head es p la pcid at ws →
+pub absent_now : (head : Head) (es : List Event) (p la pcid : ℕ) (kind : AccessKind) (at : WalkPosition) (ws : List ℕ) → (control_at head es p (length es)).pcid ≡ pcid → Comes head es p la pcid at ws →
     kind_of head.cfg at.level (word_at es la at (length es)) ≡ kinds.Absent →
     failing_access head es (faulting es p kind la (fault_code head.cfg kind causes.Absent)) (ws ++ length es ∷ []) ≡ None
 absent_now head es p la pcid kind at ws own comes is =
@@ -166,7 +166,7 @@ absent_now head es p la pcid kind at ws own comes is =
     }))
 
 -- so is a reserved one
-pub reserved_now : (head : Head) (es : List Event) (p la pcid : ℕ) (kind : AccessKind) (at : Place) (ws : List ℕ) → (control_at head es p (length es)).pcid ≡ pcid → Comes head es p la pcid at ws →
+pub reserved_now : (head : Head) (es : List Event) (p la pcid : ℕ) (kind : AccessKind) (at : WalkPosition) (ws : List ℕ) → (control_at head es p (length es)).pcid ≡ pcid → Comes head es p la pcid at ws →
     kind_of head.cfg at.level (word_at es la at (length es)) ≡ kinds.Reserved →
     failing_access head es (faulting es p kind la (fault_code head.cfg kind causes.Reserved)) (ws ++ length es ∷ []) ≡ None
 reserved_now head es p la pcid kind at ws own comes is =
@@ -193,7 +193,7 @@ abbrev pub assisting : List Event → ℕ → AccessKind → ℕ → ℕ → Boo
 assisting es p kind la word with_dirty = record { number = length es; p = p; kind = kind; la = la; word = word; dirty = with_dirty }
 
 -- an entry that is read now, present and unreserved, is a proof of its assist
-pub assist_now : (head : Head) (es : List Event) (p la pcid : ℕ) (kind : AccessKind) (at : Place) (ws : List ℕ) (with_dirty : Bool) → judges_accessed head.version ≡ true →
+pub assist_now : (head : Head) (es : List Event) (p la pcid : ℕ) (kind : AccessKind) (at : WalkPosition) (ws : List ℕ) (with_dirty : Bool) → judges_accessed head.version ≡ true →
     (control_at head es p (length es)).pcid ≡ pcid → Comes head es p la pcid at ws →
     is_wanted wants.Present (kind_of head.cfg at.level (word_at es la at (length es))) ≡ true →
     (not with_dirty || may_dirty head.cfg kind (joined at.rights (word_at es la at (length es))) (kind_of head.cfg at.level (word_at es la at (length es)))) ≡ true →
