@@ -17,8 +17,8 @@ use Rattle.pg_event.specs.Heads.{Head, judges_accessed}
 use Rattle.pg_event.specs.Spelling.{bit}
 use Rattle.pg_event.specs.Values.{written}
 use Rattle.pg_event.specs.Wants.{may_dirty}
-use Rattle.pg_script.specs.declared.instruction.Instruction.{Instruction}
-use Rattle.pg_script.specs.declared.instruction.Instruction.TheVariants as instructions
+use Rattle.pg_guest.specs.declared.instruction.Instruction.{Instruction}
+use Rattle.pg_guest.specs.declared.instruction.Instruction.TheVariants as instructions
 use Rattle.pg_shadow.specs.declared.entries.Found.{Found}
 use Rattle.pg_shadow.specs.declared.entries.Found.TheVariants.{Hit, Partial, Miss}
 use Rattle.pg_world.specs.declared.walk.LevelRead.{LevelRead}

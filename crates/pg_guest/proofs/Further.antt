@@ -23,8 +23,8 @@ use Rattle.pg_event.specs.Invalidation.{structure_key}
 use Rattle.pg_event.specs.Values.{control_at}
 use Rattle.pg_event.specs.Walk.{below, root_of}
 use Rattle.pg_event.specs.Wants.{is_table, is_wanted}
-use Rattle.pg_script.specs.declared.instruction.Instruction.{Instruction}
-use Rattle.pg_script.specs.declared.instruction.Instruction.TheVariants.{Write, Access, MovCr3, Invlpg, Invpcid, MovCr4Pge}
+use Rattle.pg_guest.specs.declared.instruction.Instruction.{Instruction}
+use Rattle.pg_guest.specs.declared.instruction.Instruction.TheVariants.{Write, Access, MovCr3, Invlpg, Invpcid, MovCr4Pge}
 use Rattle.pg_shadow.specs.declared.entries.Found.{Found}
 use Rattle.pg_shadow.specs.declared.entries.Found.TheVariants.{Hit, Partial, Miss}
 use Rattle.pg_shadow.specs.declared.entries.KeptTable.{KeptTable}

@@ -6,8 +6,8 @@ use Rattle.std.proofs.lemmas.Option.{same_Some}
 use Rattle.pg_event.specs.declared.event.Event.{Event}
 use Rattle.pg_event.specs.Form.{processor_of}
 use Rattle.pg_event.specs.Heads.{Head}
-use Rattle.pg_script.specs.declared.instruction.Instruction.{Instruction}
-use Rattle.pg_script.specs.Tasks.{shape, IsWellFormed}
+use Rattle.pg_guest.specs.declared.instruction.Instruction.{Instruction}
+use Rattle.pg_guest.specs.Tasks.{shape, IsWellFormed}
 use Rattle.pg_guest.specs.Steps.{IsOwnEvent}
 
 pub AllByRecursion-at : (P : Instruction → Type 0) (xs : List Instruction) (k : ℕ) (x : Instruction) → AllByRecursion P xs → slice_get xs k ≡ Some x → P x

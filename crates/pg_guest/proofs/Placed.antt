@@ -5,9 +5,9 @@ use Rattle.std.specs.List.{AllByRecursion}
 use Rattle.std.specs.Option.{option_map}
 use Rattle.std.proofs.lemmas.List.{map-set}
 use Rattle.std.proofs.lemmas.Option.{same_Some, slice_get-map}
-use Rattle.pg_script.specs.declared.instruction.Instruction.{Instruction}
-use Rattle.pg_script.specs.Reading.{Scripted}
-use Rattle.pg_script.specs.Tasks.{IsWellFormed, instructions_of}
+use Rattle.pg_guest.specs.declared.instruction.Instruction.{Instruction}
+use Rattle.pg_guest.specs.Reading.{Scripted}
+use Rattle.pg_guest.specs.Tasks.{IsWellFormed, instructions_of}
 use Rattle.pg_world.specs.Recording.{Recording}
 use Rattle.pg_guest.specs.declared.advance.Advance.{Advance}
 use Rattle.pg_guest.specs.CoreRun.{unwritten, IsCoreRun}

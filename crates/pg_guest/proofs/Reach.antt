@@ -13,8 +13,8 @@ use Rattle.pg_event.specs.Form.{is_canonical, broken_rule}
 use Rattle.pg_event.specs.Heads.{Head}
 use Rattle.pg_event.specs.Invalidation.{level_shift}
 use Rattle.pg_event.specs.Walk.{below}
-use Rattle.pg_script.specs.declared.instruction.Instruction.TheVariants.{Access}
-use Rattle.pg_script.specs.Tasks.{event_of, IsWellFormed}
+use Rattle.pg_guest.specs.declared.instruction.Instruction.TheVariants.{Access}
+use Rattle.pg_guest.specs.Tasks.{event_of, IsWellFormed}
 use Rattle.pg_shadow.specs.Caches.{is_page_shift, levels_to, IsBlock, IsTableAt, IsPageAt}
 use Rattle.pg_world.specs.Walks.{levels_above, is_table_address, is_walk}
 use Rattle.pg_guest.specs.Turn.{from_root, from_table}

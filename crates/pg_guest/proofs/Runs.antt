@@ -2,8 +2,8 @@
 use Rattle.std.proofs.Common.{ℕ, List, sym, ◌∙◌, ap, subst}
 use Rattle.std.specs.List.{AllByRecursion}
 use Rattle.pg_event.specs.Heads.{Head}
-use Rattle.pg_script.specs.declared.instruction.Instruction.{Instruction}
-use Rattle.pg_script.specs.Tasks.{IsWellFormed}
+use Rattle.pg_guest.specs.declared.instruction.Instruction.{Instruction}
+use Rattle.pg_guest.specs.Tasks.{IsWellFormed}
 use Rattle.pg_world.specs.Recording.{Recording}
 use Rattle.pg_guest.specs.Turn.{Processor, Turned, IsTurn}
 use Rattle.pg_guest.proofs.Leaves.{turns_leave}

@@ -11,9 +11,9 @@ use Rattle.pg_event.specs.declared.event.Malformed.TheVariants as rules
 use Rattle.pg_event.specs.declared.event.Outcome.TheVariants as outcomes
 use Rattle.pg_event.specs.Form.{processor_of, access_kind, is_canonical, flags_of}
 use Rattle.pg_event.specs.Heads.{Head}
-use Rattle.pg_script.specs.declared.instruction.Instruction.{Instruction}
-use Rattle.pg_script.specs.declared.instruction.Instruction.TheVariants.{Write, Access, MovCr3, Invlpg, Invpcid, MovCr4Pge}
-use Rattle.pg_script.specs.Tasks.{shape, IsWellFormed}
+use Rattle.pg_guest.specs.declared.instruction.Instruction.{Instruction}
+use Rattle.pg_guest.specs.declared.instruction.Instruction.TheVariants.{Write, Access, MovCr3, Invlpg, Invpcid, MovCr4Pge}
+use Rattle.pg_guest.specs.Tasks.{shape, IsWellFormed}
 use Rattle.pg_shadow.specs.declared.entries.Found.{Found}
 use Rattle.pg_world.specs.declared.receipt.Receipt.{Receipt}
 use Rattle.pg_world.specs.Recording.{Recording, receipt_of}

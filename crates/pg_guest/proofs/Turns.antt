@@ -24,8 +24,8 @@ use Rattle.pg_event.specs.Values.{control_at}
 use Rattle.pg_event.specs.Walk.{below}
 use Rattle.pg_event.specs.Wants.{is_wanted, may_dirty}
 use Rattle.pg_event.specs.Witness.{Accepted, failing_event, failing_access, failing_assist}
-use Rattle.pg_script.specs.declared.instruction.Instruction.{Instruction}
-use Rattle.pg_script.specs.declared.instruction.Instruction.TheVariants.{Write, Access, MovCr3, Invlpg, Invpcid, MovCr4Pge}
+use Rattle.pg_guest.specs.declared.instruction.Instruction.{Instruction}
+use Rattle.pg_guest.specs.declared.instruction.Instruction.TheVariants.{Write, Access, MovCr3, Invlpg, Invpcid, MovCr4Pge}
 use Rattle.pg_shadow.specs.declared.entries.Found.{Found}
 use Rattle.pg_shadow.specs.declared.entries.Found.TheVariants.{Hit, Partial, Miss}
 use Rattle.pg_shadow.specs.declared.entries.KeptLeaf.{KeptLeaf}

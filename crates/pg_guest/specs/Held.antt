@@ -1,6 +1,6 @@
 -- What a processor in memory is seen as.
 use Rattle.std.specs.Prelude.{ℕ, ◌≤◌, List, length}
-use Rattle.pg_script.specs.declared.instruction.Instruction.{Instruction}
+use Rattle.pg_guest.specs.declared.instruction.Instruction.{Instruction}
 use Rattle.pg_shadow.specs.declared.entries.Found.{Found}
 use Rattle.pg_shadow.specs.Find.{IsInRange}
 use Rattle.pg_shadow.specs.Held as shadows

@@ -22,10 +22,10 @@ use Rattle.pg_event.specs.Values.{mem_at, control_at}
 use Rattle.pg_event.specs.Walk.{below, entry_address, root_of}
 use Rattle.pg_event.specs.Wants.{is_table}
 use Rattle.pg_event.specs.Witness.{survives}
-use Rattle.pg_script.specs.declared.instruction.Instruction.{Instruction}
-use Rattle.pg_script.specs.declared.instruction.Instruction.TheVariants.{Write, Access, MovCr3}
-use Rattle.pg_script.specs.declared.instruction.Instruction.TheVariants.{Invlpg, Invpcid}
-use Rattle.pg_script.specs.declared.instruction.Instruction.TheVariants.{MovCr4Pge}
+use Rattle.pg_guest.specs.declared.instruction.Instruction.{Instruction}
+use Rattle.pg_guest.specs.declared.instruction.Instruction.TheVariants.{Write, Access, MovCr3}
+use Rattle.pg_guest.specs.declared.instruction.Instruction.TheVariants.{Invlpg, Invpcid}
+use Rattle.pg_guest.specs.declared.instruction.Instruction.TheVariants.{MovCr4Pge}
 use Rattle.pg_shadow.specs.declared.entries.Found.{Found}
 use Rattle.pg_shadow.specs.declared.entries.Found.TheVariants.{Hit, Partial, Miss}
 use Rattle.pg_shadow.specs.declared.entries.KeptLeaf.{KeptLeaf}

@@ -4,7 +4,7 @@ use Rattle.pg_event.specs.declared.event.Event.{Event}
 use Rattle.pg_event.specs.Form.{processor_of}
 use Rattle.pg_event.specs.Heads.{Head}
 use Rattle.pg_event.specs.Witness.{Accepted}
-use Rattle.pg_script.specs.declared.instruction.Instruction.{Instruction}
+use Rattle.pg_guest.specs.declared.instruction.Instruction.{Instruction}
 use Rattle.pg_world.specs.Recording.{Recording}
 use Rattle.pg_guest.specs.declared.advance.Advance.{Advance}
 use Rattle.pg_guest.specs.Turn.{Processor, Turned, IsTurn, fresh}

@@ -1,3 +1,15 @@
+pub mod Lines
+pub mod Numbers
+pub mod Words
+pub mod Tasks
+pub mod Dealt
+pub mod Heading
+pub mod Instructions
+pub mod Reading
+pub mod Refusals
+pub mod Spelling
+pub mod ScriptLaws
+pub mod Answers
 pub mod Turn
 pub mod CoreRun
 pub mod Leaves

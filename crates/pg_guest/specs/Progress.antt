@@ -11,10 +11,10 @@ use Rattle.pg_event.specs.Form.{access_kind}
 use Rattle.pg_event.specs.Spelling.{IsHead}
 use Rattle.pg_event.specs.Wants.{is_wanted}
 use Rattle.pg_entry.specs.Kinds.{kind_of}
-use Rattle.pg_script.specs.declared.instruction.Instruction.{Instruction}
-use Rattle.pg_script.specs.declared.instruction.Instruction.TheVariants.{Write, Access, MovCr3}
-use Rattle.pg_script.specs.declared.instruction.Instruction.TheVariants.{Invlpg, Invpcid}
-use Rattle.pg_script.specs.declared.instruction.Instruction.TheVariants.{MovCr4Pge}
+use Rattle.pg_guest.specs.declared.instruction.Instruction.{Instruction}
+use Rattle.pg_guest.specs.declared.instruction.Instruction.TheVariants.{Write, Access, MovCr3}
+use Rattle.pg_guest.specs.declared.instruction.Instruction.TheVariants.{Invlpg, Invpcid}
+use Rattle.pg_guest.specs.declared.instruction.Instruction.TheVariants.{MovCr4Pge}
 use Rattle.pg_shadow.specs.declared.entries.Found.{Found}
 use Rattle.pg_shadow.specs.declared.entries.Found.TheVariants.{Hit, Partial, Miss}
 use Rattle.pg_shadow.specs.Caches.{Caches}

@@ -2,8 +2,8 @@
 use Rattle.std.specs.Prelude.{◌≡◌, ℕ, List, length, Some, slice_get}
 use Rattle.pg_event.specs.Heads.{Head}
 use Rattle.pg_event.specs.Witness.{Accepted}
-use Rattle.pg_script.specs.Reading.{Scripted}
-use Rattle.pg_script.specs.Tasks.{instructions_of}
+use Rattle.pg_guest.specs.Reading.{Scripted}
+use Rattle.pg_guest.specs.Tasks.{instructions_of}
 use Rattle.pg_world.specs.Recording.{Recording}
 use Rattle.pg_guest.specs.declared.advance.Advance.{Advance}
 use Rattle.pg_guest.specs.declared.advance.Advance.TheVariants.{Stopped}

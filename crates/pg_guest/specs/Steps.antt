@@ -5,7 +5,7 @@ use Rattle.pg_entry.specs.declared.Level.{Level}
 use Rattle.pg_event.specs.declared.event.Event.{Event}
 use Rattle.pg_event.specs.Form.{processor_of, broken_rule}
 use Rattle.pg_event.specs.Heads.{Head}
-use Rattle.pg_script.specs.Tasks.{shape, IsWellFormed}
+use Rattle.pg_guest.specs.Tasks.{shape, IsWellFormed}
 use Rattle.pg_world.specs.declared.walk.LevelRead.{LevelRead}
 use Rattle.pg_world.specs.declared.walk.LevelRead.TheVariants.{Entry, Fault, Assisted}
 use Rattle.pg_world.specs.declared.error.WorldError.{WorldError}

@@ -5,8 +5,8 @@ use Rattle.std.specs.List.{AllByRecursion, flat_map}
 use Rattle.pg_event.specs.declared.event.Event.{Event}
 use Rattle.pg_event.specs.Form.{processor_of}
 use Rattle.pg_event.specs.Heads.{Head}
-use Rattle.pg_script.specs.declared.instruction.Instruction.{Instruction}
-use Rattle.pg_script.specs.Tasks.{shape, IsWellFormed}
+use Rattle.pg_guest.specs.declared.instruction.Instruction.{Instruction}
+use Rattle.pg_guest.specs.Tasks.{shape, IsWellFormed}
 use Rattle.pg_world.specs.declared.receipt.Receipt.{Receipt}
 use Rattle.pg_world.specs.Recording.{Recording}
 use Rattle.pg_guest.specs.declared.advance.Advance.{Advance}

@@ -11,7 +11,7 @@ ghost use Rattle.pg_guest.specs.Runs.{ArePlaced, IsNew, AreNew};
 
 use crate::advance::Advance;
 use crate::processor::Processor;
-use pg_script::Script;
+use crate::script::Script;
 use pg_world::World;
 use std::alloc::{AllocError, Global};
 

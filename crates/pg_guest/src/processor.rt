@@ -14,8 +14,8 @@ mod walking;
 
 use crate::advance::{Advance, Stop};
 use crate::calls::record;
+use crate::instruction::Instruction;
 use pg_event::{Event, Header};
-use pg_script::Instruction;
 use pg_shadow::{Found, Shadow};
 use pg_world::{Receipt, World};
 use std::alloc::Global;

@@ -2,9 +2,8 @@ ghost use Rattle.std.specs.Prelude.{◌≡◌};
 
 use crate::processors::{ANSWERED, TWO};
 use crate::written::{receipt_of, script_of};
-use pg_guest::Advance;
+use pg_guest::{Advance, Script};
 use pg_runner::{Board, Counts, Progress, Publisher};
-use pg_script::Script;
 use std::alloc::{AllocError, Global};
 use std::test::Fail;
 

@@ -4,8 +4,7 @@ ghost use Rattle.pg_guest.specs.Runs.{ArePlaced};
 
 use crate::written::{Written, receipt_of, script_of};
 use pg_event::Outcome;
-use pg_guest::{Advance, Processor, Stop, drive, processors};
-use pg_script::Script;
+use pg_guest::{Advance, Processor, Script, Stop, drive, processors};
 use pg_world::{Receipt, World};
 use std::alloc::{AllocError, AllocGlobal, Global};
 use std::process::Abort;

@@ -1,7 +1,7 @@
 use crate::written::script_of;
 use pg_entry::{Cfg, CfgFlags};
 use pg_event::{Header, Version};
-use pg_script::{Instruction, Script, ScriptRefusal};
+use pg_guest::{Instruction, Script, ScriptRefusal};
 use std::alloc::{AllocError, AllocGlobal, Global};
 use std::process::Abort;
 use std::test::Fail;

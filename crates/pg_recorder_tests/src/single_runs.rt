@@ -1,7 +1,7 @@
 use crate::threads::is_accepted;
 use crate::written::script_of;
+use pg_guest::Script;
 use pg_runner::{RunError, run_single};
-use pg_script::Script;
 use pg_world::Receipt;
 use std::alloc::Global;
 use std::test::Fail;

@@ -6,13 +6,12 @@ use crate::boards::STALE;
 use crate::written::{Written, event_of, receipt_of, script_of};
 use pg_codec::{Watched, write_record};
 use pg_event::{Outcome, Record};
-use pg_guest::Advance;
+use pg_guest::{Advance, Script};
 use pg_pool::{Gate, OpenGate};
 use pg_report::{Report, Verdict};
 use pg_runner::{
     Board, Counts, Progress, Publisher, RunError, RunResult, run_guest, run_guest_watched,
 };
-use pg_script::Script;
 use pg_world::Receipt;
 use std::alloc::{AllocError, AllocGlobal, Global};
 use std::sync::atomic::{AtomicU64, Ordering};

@@ -1,9 +1,8 @@
 use crate::written::script_of;
 use pg_check::{History, check_event};
 use pg_event::{Event, well_formed};
-use pg_guest::Advance;
+use pg_guest::{Advance, Script};
 use pg_runner::{Board, Progress};
-use pg_script::Script;
 use std::alloc::Global;
 use std::test::Fail;
 

@@ -2,7 +2,7 @@
 //! constant can make otherwise, and scripts as texts.
 
 use pg_event::{Event, Moments, Outcome};
-use pg_script::{Script, ScriptError, ScriptRefusal};
+use pg_guest::{Script, ScriptError, ScriptRefusal};
 use pg_world::Receipt;
 use std::alloc::Global;
 

@@ -8,8 +8,7 @@ ghost use Rattle.pg_runner.specs.Runs.{record_of};
 
 use crate::again::{take_sealed, turn};
 use pg_event::Record;
-use pg_guest::{Advance, Processor, processors};
-use pg_script::Script;
+use pg_guest::{Advance, Processor, Script, processors};
 use pg_world::World;
 use std::alloc::{AllocError, Global};
 

@@ -8,8 +8,8 @@ use crate::guest::{Ran, run};
 use crate::judge::judge;
 use pg_codec::{Watched, write_record};
 use pg_event::Record;
+use pg_guest::Script;
 use pg_report::Report;
-use pg_script::Script;
 use std::alloc::{AllocError, Global};
 
 /// A page mapped, read, taken away, read from what is cached, invalidated and read again.

@@ -3,9 +3,9 @@ use Rattle.std.proofs.Common.{◌≡◌, ℕ, zero, suc, ◌<◌, List, [], ◌�
 use Rattle.std.specs.Prelude.{slice_get}
 use Rattle.std.specs.List.{AllByRecursion}
 use Rattle.std.proofs.lemmas.List.{length-map}
-use Rattle.pg_script.specs.declared.instruction.Task.{Task}
-use Rattle.pg_script.specs.Reading.{Scripted}
-use Rattle.pg_script.specs.Tasks.{order_of}
+use Rattle.pg_guest.specs.declared.instruction.Task.{Task}
+use Rattle.pg_guest.specs.Reading.{Scripted}
+use Rattle.pg_guest.specs.Tasks.{order_of}
 use Rattle.pg_guest.specs.Held.{Held, seen}
 use Rattle.pg_world.specs.Recording.{Recording}
 use Rattle.pg_runner.specs.Lines.{AreCarriedOut}

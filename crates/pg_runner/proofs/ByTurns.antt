@@ -7,9 +7,9 @@ use Rattle.std.proofs.lemmas.Option.{same_Some}
 use Rattle.pg_event.specs.Spelling.{IsHead}
 use Rattle.pg_entry.specs.declared.Level.{Level}
 use Rattle.pg_world.specs.declared.receipt.Receipt.{Receipt}
-use Rattle.pg_script.specs.declared.instruction.Task.{Task}
-use Rattle.pg_script.specs.Reading.{Scripted, IsScript}
-use Rattle.pg_script.specs.Tasks.{instructions_of}
+use Rattle.pg_guest.specs.declared.instruction.Task.{Task}
+use Rattle.pg_guest.specs.Reading.{Scripted, IsScript}
+use Rattle.pg_guest.specs.Tasks.{instructions_of}
 use Rattle.pg_world.specs.Recording.{Recording, is_full}
 use Rattle.pg_guest.specs.declared.advance.Advance.{Advance}
 use Rattle.pg_guest.specs.declared.advance.Advance.TheVariants.{Read, Assisted, Done, Ended, Stopped}

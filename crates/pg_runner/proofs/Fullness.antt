@@ -3,9 +3,9 @@ use Rattle.std.proofs.Common.{◌≡◌, ℕ, zero, suc, ◌+◌, ◌*◌, ◌-�
 use Rattle.std.specs.Prelude.{slice_get}
 use Rattle.std.proofs.lemmas.Bool.{cases_eq, ne_eqb, lt-ltb}
 use Rattle.std.proofs.lemmas.List.Sums.{sum_by-cons}
-use Rattle.pg_script.specs.declared.instruction.Task.{Task}
-use Rattle.pg_script.specs.Reading.{Scripted, IsScript, most_instructions}
-use Rattle.pg_script.specs.Tasks.{instructions_of}
+use Rattle.pg_guest.specs.declared.instruction.Task.{Task}
+use Rattle.pg_guest.specs.Reading.{Scripted, IsScript, most_instructions}
+use Rattle.pg_guest.specs.Tasks.{instructions_of}
 use Rattle.pg_guest.specs.Turn.{Processor}
 use Rattle.pg_guest.proofs.Few.{events_are_few}
 use Rattle.pg_world.specs.Recording.{Recording, is_full}

@@ -7,10 +7,10 @@ use Rattle.pg_event.specs.declared.event.Event.{Event}
 use Rattle.pg_event.specs.declared.event.Event.TheVariants as events
 use Rattle.pg_event.specs.declared.event.Outcome.TheVariants as outcomes
 use Rattle.pg_event.specs.Form.{processor_of, access_kind, flags_of}
-use Rattle.pg_script.specs.declared.instruction.Instruction.{Instruction}
-use Rattle.pg_script.specs.declared.instruction.Instruction.TheVariants.{Write, Access, MovCr3, Invlpg, Invpcid, MovCr4Pge}
-use Rattle.pg_script.specs.declared.instruction.Task.{Task}
-use Rattle.pg_script.specs.Tasks.{shape, IsWellFormed, instructions_of}
+use Rattle.pg_guest.specs.declared.instruction.Instruction.{Instruction}
+use Rattle.pg_guest.specs.declared.instruction.Instruction.TheVariants.{Write, Access, MovCr3, Invlpg, Invpcid, MovCr4Pge}
+use Rattle.pg_guest.specs.declared.instruction.Task.{Task}
+use Rattle.pg_guest.specs.Tasks.{shape, IsWellFormed, instructions_of}
 use Rattle.pg_shadow.specs.declared.entries.Found.{Found}
 use Rattle.pg_world.specs.Recording.{Recording, receipt_of}
 use Rattle.pg_guest.specs.declared.advance.Advance.{Advance}

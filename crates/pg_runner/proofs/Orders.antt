@@ -1,7 +1,7 @@
 -- Turns that go line by line.
 use Rattle.std.proofs.Common.{◌≡◌, ℕ, zero, suc, ◌+◌, List, [], ◌∷◌, ◌++◌, drop, refl, sym, ◌∙◌, ap, arith, Some}
 use Rattle.std.specs.Prelude.{slice_get}
-use Rattle.pg_script.specs.declared.instruction.Task.{Task}
+use Rattle.pg_guest.specs.declared.instruction.Task.{Task}
 use Rattle.pg_world.specs.declared.receipt.Receipt.{Receipt}
 use Rattle.pg_guest.specs.declared.advance.Advance.{Advance}
 use Rattle.pg_guest.specs.declared.advance.Advance.TheVariants.{Done}

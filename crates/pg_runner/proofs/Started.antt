@@ -1,9 +1,9 @@
 -- What holds of every run of a script's processors.
 use Rattle.std.proofs.Common.{◌≡◌, ℕ, zero, suc, false, List, [], ◌∷◌, ◌++◌, length, refl, sym, ◌∙◌, ap, subst, arith, Some}
 use Rattle.std.specs.Prelude.{slice_get, slice_set}
-use Rattle.pg_script.specs.Reading.{Scripted, IsScript}
-use Rattle.pg_script.specs.Tasks.{instructions_of}
-use Rattle.pg_script.proofs.Wells.{own_well}
+use Rattle.pg_guest.specs.Reading.{Scripted, IsScript}
+use Rattle.pg_guest.specs.Tasks.{instructions_of}
+use Rattle.pg_guest.proofs.Wells.{own_well}
 use Rattle.pg_world.specs.Recording.{Recording}
 use Rattle.pg_guest.specs.CoreRun.{unwritten}
 use Rattle.pg_guest.specs.Laws.{IsQuiet, AreFresh}

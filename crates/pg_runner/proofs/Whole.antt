@@ -9,8 +9,8 @@ use Rattle.pg_event.specs.Form.{broken_rule}
 use Rattle.pg_event.specs.Heads.{Head}
 use Rattle.pg_event.specs.Spelling.{IsRecord}
 use Rattle.pg_event.proofs.Events.{processor_within}
-use Rattle.pg_script.specs.Reading.{Scripted, IsScript}
-use Rattle.pg_script.specs.Tasks.{instructions_of}
+use Rattle.pg_guest.specs.Reading.{Scripted, IsScript}
+use Rattle.pg_guest.specs.Tasks.{instructions_of}
 use Rattle.pg_world.specs.declared.receipt.Receipt.{Receipt}
 use Rattle.pg_world.specs.Recording.{Recording, recorded}
 use Rattle.pg_guest.specs.Transcripts.{AreOf, IsTold, shapes_of}

@@ -4,7 +4,7 @@ use Rattle.std.proofs.lemmas.List.{length-map}
 use Rattle.pg_event.specs.declared.record.Record.{Record}
 use Rattle.pg_event.specs.Heads.{Head}
 use Rattle.pg_event.specs.Spelling.{IsRecord}
-use Rattle.pg_script.specs.Reading.{Scripted, IsScript}
+use Rattle.pg_guest.specs.Reading.{Scripted, IsScript}
 use Rattle.pg_world.specs.declared.receipt.Receipt.{Receipt}
 use Rattle.pg_world.specs.Recording.{Recording, recorded}
 use Rattle.pg_guest.specs.Held.{Held, seen}

@@ -11,7 +11,7 @@ use Rattle.pg_guest.specs.Turn.{Processor}
 use Rattle.pg_runner.specs.declared.counts.Counts.{Counts}
 use Rattle.pg_runner.specs.Seats.{Seated, is_at, counts, greater}
 use Rattle.pg_runner.specs.Runs.{RunsTo}
-use Rattle.pg_script.specs.Reading.{Scripted, IsScript}
+use Rattle.pg_guest.specs.Reading.{Scripted, IsScript}
 use Rattle.pg_world.specs.Recording.{Recording, sealed_count, with_taken}
 
 -- a record in the making, its processors in the order of their numbers, and the publisher of its

@@ -6,7 +6,7 @@ use Rattle.pg_report.specs.declared.report.Verdict.TheVariants.{Yes}
 use Rattle.pg_report.specs.Text.{report_of}
 use Rattle.pg_runner.specs.declared.result.RunResult.{RunResult}
 use Rattle.pg_runner.specs.Runs.{IsRunOfScript, record_of}
-use Rattle.pg_script.specs.Reading.{Scripted}
+use Rattle.pg_guest.specs.Reading.{Scripted}
 
 -- a run of the script's processors, whose turns came in whatever order, and its report is a yes
 pub record IsGuestRun (script : Scripted) (result : RunResult) : Type 0 where

@@ -5,10 +5,10 @@ use Rattle.std.specs.List.{flat_map}
 use Rattle.pg_event.specs.declared.event.Event.{Event}
 use Rattle.pg_event.specs.Form.{processor_of}
 use Rattle.pg_event.specs.Spelling.{Recorded}
-use Rattle.pg_script.specs.declared.instruction.Instruction.{Instruction}
-use Rattle.pg_script.specs.declared.instruction.Task.{Task}
-use Rattle.pg_script.specs.Reading.{Scripted}
-use Rattle.pg_script.specs.Tasks.{instructions_of, shape}
+use Rattle.pg_guest.specs.declared.instruction.Instruction.{Instruction}
+use Rattle.pg_guest.specs.declared.instruction.Task.{Task}
+use Rattle.pg_guest.specs.Reading.{Scripted}
+use Rattle.pg_guest.specs.Tasks.{instructions_of, shape}
 use Rattle.pg_world.specs.declared.receipt.Receipt.{Receipt}
 use Rattle.pg_world.specs.Recording.{Recording}
 use Rattle.pg_guest.specs.declared.advance.Advance.{Advance}

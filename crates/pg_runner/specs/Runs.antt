@@ -2,8 +2,8 @@
 use Rattle.std.specs.Prelude.{◌≡◌, ℕ, List, length, map, Some, slice_get}
 use Rattle.pg_event.specs.declared.record.Record.{Record}
 use Rattle.pg_event.specs.Spelling.{Recorded}
-use Rattle.pg_script.specs.Reading.{Scripted}
-use Rattle.pg_script.specs.Tasks.{instructions_of}
+use Rattle.pg_guest.specs.Reading.{Scripted}
+use Rattle.pg_guest.specs.Tasks.{instructions_of}
 use Rattle.pg_world.specs.declared.receipt.Receipt.{Receipt}
 use Rattle.pg_world.specs.Recording.{Recording, recorded}
 use Rattle.pg_guest.specs.declared.advance.Advance.{Advance}

@@ -11,8 +11,7 @@ use crate::error::RunError;
 use crate::record_report::report_of_record;
 use crate::result::RunResult;
 use crate::turns::turn;
-use pg_guest::{Advance, Processor, Stop, processors};
-use pg_script::Script;
+use pg_guest::{Advance, Processor, Script, Stop, processors};
 use pg_world::{Receipt, World};
 use std::alloc::{AllocError, Global};
 

@@ -4,7 +4,7 @@ use Rattle.std.specs.Prelude.{IfOk, IfErr}
 use Rattle.std.specs.Io.KnownBytes.{IsAtEnd}
 use Rattle.pg_event.specs.Spelling.{Recorded}
 use Rattle.pg_world.specs.declared.receipt.Receipt.{Receipt}
-use Rattle.pg_script.specs.Reading.{Scripted, reading}
+use Rattle.pg_guest.specs.Reading.{Scripted, reading}
 use Rattle.pg_report.specs.declared.report.Verdict.TheVariants.{Yes}
 use Rattle.pg_report.specs.Changes.{Change, Adds, AddsSome, AddsNothing, Works}
 use Rattle.pg_report.specs.Text.{report_of}

@@ -4,8 +4,8 @@ use Rattle.std.specs.Prelude.{List, ◌++◌, length, map, Result, Ok, Err, code
 use Rattle.std.specs.Io.KnownBytes.{Consumes, IsAtEnd}
 use Rattle.pg_codec.specs.Streams.{FailsWithDevice}
 use Rattle.pg_event.specs.Spelling.{Recorded, record_bytes}
-use Rattle.pg_script.specs.Reading.{Scripted, reading}
-use Rattle.pg_script.specs.Refusals.{IsRefused, is_memory, number_of, name_of}
+use Rattle.pg_guest.specs.Reading.{Scripted, reading}
+use Rattle.pg_guest.specs.Refusals.{IsRefused, is_memory, number_of, name_of}
 use Rattle.pg_world.specs.declared.receipt.Receipt.{Receipt}
 use Rattle.pg_report.specs.declared.error.AuditError.TheVariants as audits
 use Rattle.pg_report.specs.declared.report.Verdict.TheVariants.{Yes}

@@ -1,5 +1,5 @@
+use pg_guest::ScriptError;
 use pg_runner::RunError;
-use pg_script::ScriptError;
 use thiserror::Error;
 
 /// Why a guest script gives no answer.

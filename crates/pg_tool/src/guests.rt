@@ -13,11 +13,11 @@ ghost use Rattle.pg_tool.specs.Guests.{IsGuestRun, IsResultBy, StopsBy, TakesScr
 use crate::guest_error::GuestError;
 use pg_codec::{IntakeError, Sink, Source, pull_all, put_all, write_record};
 use pg_event::Record;
+use pg_guest::Script;
 use pg_plan::{Checkers, RunOptions};
 use pg_pool::OpenGate;
 use pg_report::{Crew, Report};
 use pg_runner::{Observer, RunError, RunResult, run_guest_followed, run_single};
-use pg_script::Script;
 use std::alloc::{AllocGlobal, Global};
 use std::sync::Wait;
 use std::thread::Threads;

@@ -1,8 +1,8 @@
 //! What a turn does: an access goes on with its walk, another instruction is carried out.
 
 ghost use Rattle.std.specs.Prelude.{◌≡◌, ◌<◌, length, Some};
-ghost use Rattle.pg_script.specs.declared.instruction.Instruction.TheVariants as instructions;
-ghost use Rattle.pg_script.specs.Tasks.{IsWellFormed};
+ghost use Rattle.pg_guest.specs.declared.instruction.Instruction.TheVariants as instructions;
+ghost use Rattle.pg_guest.specs.Tasks.{IsWellFormed};
 ghost use Rattle.pg_shadow.specs.Held.{seen as cached};
 ghost use Rattle.pg_shadow.specs.Find.{IsInRange};
 ghost use Rattle.pg_guest.specs.Turn.{carried_out, begun, goes_on, turned_by, ComesTo, IsTurn};
@@ -12,10 +12,10 @@ ghost use Rattle.pg_guest.specs.Steps.{IsOfRun};
 use super::Processor;
 use crate::advance::Advance;
 use crate::calls::cfg_of;
+use crate::instruction::Instruction;
 use crate::walks::{address_in, from_root, from_table, outcome_of};
 use pg_entry::AccessKind;
 use pg_event::{Event, Header, Moments, Outcome, access_kind};
-use pg_script::Instruction;
 use pg_shadow::Found;
 use pg_world::World;
 

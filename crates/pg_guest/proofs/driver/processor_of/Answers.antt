@@ -1,7 +1,7 @@
 use Rattle.std.proofs.Common.{◌∙◌, ap, subst}
 use Rattle.std.specs.List.{AllByRecursion}
 use Rattle.pg_event.specs.Heads.{Head}
-use Rattle.pg_script.specs.Tasks.{IsWellFormed}
+use Rattle.pg_guest.specs.Tasks.{IsWellFormed}
 use Rattle.pg_guest.specs.Turn.{fresh}
 use Rattle.pg_guest.proofs.Placed.{is_new}
 use Rattle.pg_guest.proofs.driver.processor_of.Goals as goal

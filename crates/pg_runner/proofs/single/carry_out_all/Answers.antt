@@ -1,7 +1,7 @@
 use Rattle.std.proofs.Common.{◌≡◌, ◌∙◌, length, map, ap, subst, arith}
 use Rattle.std.proofs.lemmas.List.{length-map}
 use Rattle.pg_guest.specs.Held.{seen}
-use Rattle.pg_script.specs.declared.instruction.Task.{Task}
+use Rattle.pg_guest.specs.declared.instruction.Task.{Task}
 use Rattle.pg_runner.specs.Lines.{AreCarriedOut}
 use Rattle.pg_runner.proofs.single.carry_out_all.Goals as goal
 

@@ -1,7 +1,7 @@
 use Rattle.std.proofs.Common.{◌≡◌, refl, ap}
 use Rattle.pg_event.specs.declared.event.Event.TheVariants.{Access}
 use Rattle.pg_guest.specs.Held.{Held}
-use Rattle.pg_script.specs.declared.instruction.Instruction.TheVariants as instructions
+use Rattle.pg_guest.specs.declared.instruction.Instruction.TheVariants as instructions
 use Rattle.pg_guest.proofs.Instructions.{carries}
 use Rattle.pg_guest.proofs.processor.Processor.access.Goals as goal
 

@@ -1,8 +1,8 @@
 use Rattle.std.proofs.Common.{◌≡◌, List, Option, Some, None, refl, sym, ◌∙◌, ap, subst, inr}
 use Rattle.std.specs.Prelude.{slice_get}
 use Rattle.std.proofs.lemmas.Option.{slice_get-get_or, slice_get_within, slice_get_past}
-use Rattle.pg_script.specs.declared.instruction.Instruction.{Instruction}
-use Rattle.pg_script.specs.Tasks.{IsWellFormed}
+use Rattle.pg_guest.specs.declared.instruction.Instruction.{Instruction}
+use Rattle.pg_guest.specs.Tasks.{IsWellFormed}
 use Rattle.pg_guest.specs.declared.advance.Advance.TheVariants.{Ended}
 use Rattle.pg_guest.specs.Turn.{Turned, ComesTo, turned_by}
 use Rattle.pg_guest.specs.Held.{Held, seen}

@@ -1,6 +1,6 @@
 use Rattle.std.proofs.Common.{◌≡◌, ℕ, ◌<◌, Some, slice_get}
 use Rattle.pg_guest.specs.Held.{Held}
-use Rattle.pg_script.specs.Tasks.{instructions_of}
+use Rattle.pg_guest.specs.Tasks.{instructions_of}
 use Rattle.pg_runner.proofs.board.Board.is_of.Given as goal
 
 abbrev pub invariant-loop-p : goal.invariant-loop-p

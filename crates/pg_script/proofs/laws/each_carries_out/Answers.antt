@@ -1,5 +1,0 @@
-use Rattle.pg_script.proofs.Shapes.{each_carries_out}
-use Rattle.pg_script.proofs.laws.each_carries_out.Goals as goal
-
-pub returns : goal.returns
-returns c = each_carries_out

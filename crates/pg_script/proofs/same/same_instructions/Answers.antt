@@ -1,6 +1,0 @@
-use Rattle.std.proofs.lemmas.Slice.Eq.{slice_eq-Decides}
-use Rattle.pg_script.proofs.SameInstructions.{same_instruction}
-use Rattle.pg_script.proofs.same.same_instructions.Goals as goal
-
-pub returns : goal.returns
-returns c = slice_eq-Decides same_instruction _ _ _ c.eq.ensures
