@@ -4,7 +4,7 @@
 use crate::asked::{Asked, asked_of};
 use crate::edges::Edge;
 use crate::facts::Facts;
-use crate::numbers::{NEVER, at, count_below, number};
+use crate::numbers::{NEVER, at, number};
 use crate::search::Maker;
 use crate::sure::Sure;
 use crate::sweep::{Hit, Limits, Reading, View};
@@ -77,7 +77,7 @@ impl<'n> Needs<'n> {
 
     /// What another write of the word needs.
     fn part(&mut self, i: usize, writer: u32, start: u32, other: u32) -> Result<(), AllocError> {
-        let is_later = writer == NEVER || self.precedes(writer, other);
+        let is_later = self.facts.comes_after(other, writer);
         if start != NEVER {
             if other == start || self.precedes(other, start) {
                 self.push(other, writer)?;
@@ -109,12 +109,7 @@ impl<'n> Needs<'n> {
             self.push(writer, end)?;
         }
         let writes = facts.writes.list(word);
-        let least = if writer == NEVER {
-            0
-        } else {
-            facts.since(writer)
-        };
-        for k in count_below(writes, least)..number(writes.len()) {
+        for k in facts.first_behind(writes, writer)..number(writes.len()) {
             let other = at(writes, k);
             if other > event.saturating_add(facts.reach) {
                 break;

@@ -1,7 +1,7 @@
 //! What must come before what for a walk to witness an event, beyond what the spans say.
 
 use crate::asked::Asked;
-use crate::numbers::{Chance, NEVER, at, count_below, number};
+use crate::numbers::{Chance, NEVER, at, number};
 use crate::sweep::{Hit, Reading, View};
 use std::alloc::{AllocError, Global};
 
@@ -71,13 +71,8 @@ impl<'v> Edges<'v> {
         let facts = self.view.facts;
         let made = self.view.made;
         let writes = self.writes(reading.word);
-        let least = if reading.writer == NEVER {
-            0
-        } else {
-            facts.since(reading.writer)
-        };
         let most = self.asked.event.saturating_add(facts.reach);
-        let first = count_below(writes, least) as usize;
+        let first = facts.first_behind(writes, reading.writer) as usize;
         let wrote = made.place(reading.writer);
         let mut near = NEVER;
         let mut any = reading.assist;
@@ -206,7 +201,7 @@ impl<'v> Edges<'v> {
         if assist == NEVER && self.precedes(start, other) {
             return Ok(());
         }
-        let mut is_later = writer == NEVER || self.precedes(writer, other);
+        let mut is_later = self.view.facts.comes_after(other, writer);
         if !is_later {
             let (place, wrote) = (made.place(other), made.place(writer));
             if self.taste == Taste::Random {
@@ -311,12 +306,7 @@ impl<'v> Edges<'v> {
         if reading.assist != NEVER {
             self.push(reading.writer, reading.assist)?;
         }
-        let least = if reading.writer == NEVER {
-            0
-        } else {
-            facts.since(reading.writer)
-        };
-        let first = count_below(self.writes(reading.word), least);
+        let first = facts.first_behind(self.writes(reading.word), reading.writer);
         if start != NEVER {
             self.push_others(reading, start, first, chance)?;
         }

@@ -8,7 +8,7 @@ use crate::stays::Stays;
 use crate::sure::Sure;
 use pg_entry::{Cfg, Entry, Kind, Level, classify};
 use pg_event::{Control, Event, Version, controlled, loaded, processor_of};
-use pg_spanned::SpannedRun;
+use pg_spanned::{SpannedRun, ended_before, event_of};
 use std::alloc::{AllocError, Global};
 
 #[derive(Drop)]
@@ -89,10 +89,8 @@ impl<'a> Facts<'a> {
             facts.own.push(Vec::with_capacity(alloc, count as usize)?)?;
             facts.stays.push(loaded(header.cfg.m, *cr3, *pge))?;
         }
-        for number in 0..number(run.len()) {
-            if let Some(event) = run.event_at(number) {
-                facts.push(event, number)?;
-            }
+        for number in 0..run.len() as u32 {
+            facts.push(event_of(run, number), number, ended_before(run, number))?;
         }
         facts.stays.list_all()?;
         facts.drops.settle()?;
@@ -100,8 +98,8 @@ impl<'a> Facts<'a> {
         Ok(facts)
     }
 
-    /// Takes the next event.
-    fn push(&mut self, event: &Event, number: u32) -> Result<(), AllocError> {
+    /// Takes the next event, which began once so many had ended.
+    fn push(&mut self, event: &Event, number: u32, ended: u32) -> Result<(), AllocError> {
         if number.checked_rem(self.step) == Some(0) {
             for own in self.own.iter() {
                 self.own_before.push(crate::numbers::number(own.len()))?;
@@ -109,11 +107,9 @@ impl<'a> Facts<'a> {
         }
         let p = processor_of(event);
         let place = self.count(p);
-        let back = at(self.run.backs(), number).min(number);
-        let before = self.own(p, place.wrapping_sub(1));
-        let since = match before {
-            Some(before) => self.since(before).max(number.saturating_sub(back)),
-            None => number.saturating_sub(back),
+        let since = match self.own(p, place.wrapping_sub(1)) {
+            Some(before) => self.since(before).max(ended),
+            None => ended,
         };
         self.sinces.push(since)?;
         self.places.push(place)?;
@@ -275,6 +271,25 @@ impl<'a> Facts<'a> {
         classify(cfg, level, Entry(value))
     }
 
+    /// Whether an event surely comes after a write, or after the start where that is none.
+    pub(crate) fn comes_after(&self, other: u32, writer: u32) -> bool {
+        writer == NEVER || self.must_precede(writer, other)
+    }
+
+    /// Whether an event that changes the same word surely overwrites what a write wrote.
+    pub(crate) fn overwrites(&self, other: u32, writer: u32) -> bool {
+        self.comes_after(other, writer) && self.marks(other).is_none()
+    }
+
+    /// The place among the events that write a word of the first that had not ended when one of
+    /// them began.
+    pub(crate) fn first_behind(&self, writes: &[u32], writer: u32) -> u32 {
+        if writer == NEVER {
+            return 0;
+        }
+        count_below(writes, self.since(writer))
+    }
+
     /// Whether what one event wrote to a word was surely overwritten by one below a bound.
     pub(crate) fn is_dead_below(&self, word: u32, writer: u32, bound: u32) -> bool {
         let writes = self.writes.list(word);
@@ -287,8 +302,7 @@ impl<'a> Facts<'a> {
             if other >= bound {
                 return false;
             }
-            let is_later = writer == NEVER || self.must_precede(writer, other);
-            if is_later && self.marks(other).is_none() {
+            if self.overwrites(other, writer) {
                 return true;
             }
         }
@@ -298,17 +312,12 @@ impl<'a> Facts<'a> {
     /// Whether what one event wrote to a word was surely overwritten before another event.
     pub(crate) fn is_dead_before(&self, word: u32, writer: u32, event: u32) -> bool {
         let writes = self.writes.list(word);
-        let first = match writer {
-            NEVER => 0,
-            _ => count_below(writes, self.since(writer)),
-        };
-        for k in first..number(writes.len()) {
+        for k in self.first_behind(writes, writer)..number(writes.len()) {
             let other = at(writes, k);
             if other > event.saturating_add(self.reach) {
                 return false;
             }
-            let is_later = writer == NEVER || self.must_precede(writer, other);
-            if is_later && self.marks(other).is_none() && self.must_precede(other, event) {
+            if self.overwrites(other, writer) && self.must_precede(other, event) {
                 return true;
             }
         }

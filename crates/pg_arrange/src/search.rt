@@ -7,7 +7,7 @@ use crate::found::Found;
 use crate::learned::Learned;
 use crate::looked::Looked;
 use crate::made::Made;
-use crate::numbers::{Chance, NEVER, number};
+use crate::numbers::{Chance, NEVER};
 use crate::repair::Tries;
 use crate::sweep::Scratch;
 use crate::witness::Witness;
@@ -436,24 +436,11 @@ impl<'a> Maker<'a> {
     }
 }
 
-/// The order of the events of one processor: they have no other.
-fn only_order(alloc: Global, run: &SpannedRun) -> Result<Vec<u32>, AllocError> {
-    let count = number(run.len());
-    let mut order = Vec::with_capacity(alloc, count as usize)?;
-    for event in 0..count {
-        order.push(event)?;
-    }
-    Ok(order)
-}
-
 /// An order of the events of a run in which each is witnessed, as far as this search sees. It gives
 /// up once an event was the first that waits so often, or so many events were taken back.
 ///
 /// It fails only where memory is refused.
 pub fn find_order(alloc: Global, run: &SpannedRun) -> Result<Sought, AllocError> {
-    if run.header().processors.len() == 1 {
-        return Ok(Sought::Order(only_order(alloc, run)?));
-    }
     let mut maker = Maker::new(alloc, run)?;
     for _ in 0..u64::MAX {
         if maker.is_whole() {

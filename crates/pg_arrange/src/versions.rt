@@ -103,10 +103,7 @@ impl<'s> Search<'s> {
         let (next, reach) = if self.facts.sure.is_none() || writer == NEVER {
             (next, 0)
         } else {
-            (
-                count_below(writes, self.facts.since(writer)),
-                self.facts.reach,
-            )
+            (self.facts.first_behind(writes, writer), self.facts.reach)
         };
         let mut last = self.last_event(to, reach);
         for k in next..number(writes.len()) {
@@ -114,8 +111,7 @@ impl<'s> Search<'s> {
             if other > last {
                 break;
             }
-            let is_later = writer == NEVER || self.facts.must_precede(writer, other);
-            if is_later && self.facts.marks(other).is_none() && self.may_end(other, to) {
+            if self.facts.overwrites(other, writer) && self.may_end(other, to) {
                 to = to.min(self.facts.after(self.p, other));
                 last = self.last_event(to, reach);
             }
@@ -153,13 +149,9 @@ impl<'s> Search<'s> {
             return [None, None];
         }
         let writes = self.facts.writes.list(self.word);
-        let least = if plain.writer == NEVER {
-            0
-        } else {
-            self.facts.since(plain.writer)
-        };
+        let first = self.facts.first_behind(writes, plain.writer);
         let last = self.last_event(self.last.min(plain.to), self.facts.reach);
-        for k in count_below(writes, least)..number(writes.len()) {
+        for k in first..number(writes.len()) {
             let other = at(writes, k);
             if other > last {
                 break;

@@ -30,7 +30,7 @@ use Rattle.pg_spanned_text.specs.declared.parts.ReadAfter.{ReadAfter}
 use Rattle.pg_spanned_text.specs.declared.seen.Gone.{Gone}
 use Rattle.pg_spanned_text.specs.declared.seen.Seen.{Seen}
 use Rattle.pg_spanned_text.specs.Parts.{walked_address, Parts, parts_of}
-use Rattle.pg_spanned_text.specs.Spans.{span_of}
+use Rattle.pg_spanned.specs.Spans.{span_of}
 use Rattle.pg_json.specs.Tree.{Json, nothing, flag, count, list, object, elements, hex}
 use Rattle.pg_json.specs.Tree.{Fields, no_fields, field}
 use Rattle.pg_json.specs.Entries.{number_json, with_held}

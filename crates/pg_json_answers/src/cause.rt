@@ -16,8 +16,8 @@ use pg_event::{Event, Version};
 use pg_explain::level_number;
 use pg_json::{Fields, list_of, number_json, put_count, put_flag, put_held, put_hex};
 use pg_relaxed::may_be_given;
-use pg_spanned::SpannedRun;
-use pg_spanned_text::{Gone, ReadAfter, Seen, WalkCause, event_of, walk_cause, walked_address};
+use pg_spanned::{SpannedRun, event_of};
+use pg_spanned_text::{Gone, ReadAfter, Seen, WalkCause, walk_cause, walked_address};
 use serde_json::{Map, Value, put};
 use std::alloc::{AllocError, Global};
 

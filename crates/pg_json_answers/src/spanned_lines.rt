@@ -9,8 +9,7 @@ ghost use Rattle.pg_json_answers.specs.SpannedLines.{spanned_json_lines};
 use pg_event::{Event, Selection, processor_of};
 use pg_explain::{fits, is_marked, marks_of};
 use pg_json::{Fields, began_fields, line_of};
-use pg_spanned::SpannedRun;
-use pg_spanned_text::ended_before;
+use pg_spanned::{SpannedRun, ended_before};
 use serde_json::Value;
 use std::alloc::{AllocError, Global};
 

@@ -11,9 +11,8 @@ ghost use Rattle.pg_order.specs.Verdicts.{IsOrderedRun};
 
 use crate::in_order::{InOrder, certify_in_order, first_denied_in};
 use pg_certify::denied_events_have_no_run;
-use pg_event::processor_of;
 use pg_search::names_moments;
-use pg_spanned::SpannedRun;
+use pg_spanned::{SpannedRun, must_precede};
 use std::alloc::{AllocError, Global};
 
 /// What trying all orders came to.
@@ -42,29 +41,13 @@ fn lacks(numbers: &[u32], number: u32) -> bool
     numbers.iter().all(|other| *other != number)
 }
 
-/// Whether a list lacks an event that had ended before another began.
-fn lacks_ended(run: &SpannedRun, numbers: &[u32], number: u32) -> bool
+/// Whether a list lacks an event that must precede another.
+fn lacks_earlier(run: &SpannedRun, numbers: &[u32], number: u32) -> bool
     requires { number < length run.now.events }
     ensures { IsTrue result → LacksEarlier run.now numbers.now number }
 {
-    let backs = run.backs();
-    for earlier in 0..number - backs[number as usize] {
-        if lacks(numbers, earlier) {
-            return true;
-        }
-    }
-    false
-}
-
-/// Whether a list lacks an earlier event of the processor of another.
-fn lacks_own(run: &SpannedRun, numbers: &[u32], number: u32) -> bool
-    requires { number < length run.now.events }
-    ensures { IsTrue result → LacksEarlier run.now numbers.now number }
-{
-    let events = run.events();
-    let p = processor_of(&events[number as usize]);
     for earlier in 0..number {
-        if processor_of(&events[earlier as usize]) == p && lacks(numbers, earlier) {
+        if must_precede(run, earlier, number) && lacks(numbers, earlier) {
             return true;
         }
     }
@@ -143,9 +126,7 @@ impl Trying {
             NoneBegins run.now (self.now.front.items ++ self.now.next ∷ []) }
         ensures lacks { IsTrue result → Lacks self.now.front.items self.now.next }
     {
-        lacks(&self.front, self.next)
-            && !lacks_ended(run, &self.front, self.next)
-            && !lacks_own(run, &self.front, self.next)
+        lacks(&self.front, self.next) && !lacks_earlier(run, &self.front, self.next)
     }
 
     /// Goes on with the next number, or past it where no order with a run does.

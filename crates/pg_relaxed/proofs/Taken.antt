@@ -1,5 +1,5 @@
 -- Elements of the front of a list.
-use Rattle.std.proofs.Common.{◌≡◌, ◌⊎◌, ℕ, zero, suc, ◌+◌, ◌<◌, ◌≤◌, List, [], ◌∷◌, ◌++◌, length, get_or, take, drop, refl, ap, sym, ◌∙◌, subst, arith, inl, inr, Some, None}
+use Rattle.std.proofs.Common.{◌≡◌, ◌⊎◌, ℕ, zero, suc, ◌+◌, ◌<◌, ◌≤◌, List, [], ◌∷◌, ◌++◌, length, get_or, take, drop, refl, ap, sym, ◌∙◌, subst, arith, inl, inr, Some}
 use Rattle.std.specs.Prelude.{slice_get}
 use Rattle.std.specs.List.{AllByRecursion}
 use Rattle.std.proofs.lemmas.List.{take_more}
@@ -72,11 +72,6 @@ all_more P (y ∷ ys) x all h = (all.0, all_more P ys x all.1 h)
 pub got_last : {X : Type 0} (xs : List X) (x : X) → slice_get (xs ++ x ∷ []) (length xs) ≡ Some x
 got_last [] x = refl
 got_last (y ∷ ys) x = got_last ys x
-
-pub none_at : {X : Type 0} (xs : List X) (i : ℕ) → length xs ≤ i → slice_get xs i ≡ None
-none_at [] i le = refl
-none_at (y ∷ ys) zero le = absurd (omega (arith, le))
-none_at (y ∷ ys) (suc i) le = none_at ys i (omega (arith, le))
 
 -- what is after the first so many is in the list
 pub in_drop : {X : Type 0} (xs : List X) (n : ℕ) (x : X) → IsIn x (drop n xs) → IsIn x xs

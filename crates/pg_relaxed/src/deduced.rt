@@ -10,11 +10,11 @@ ghost use Rattle.pg_relaxed.specs.Supposed.{AddsEdgesOf, FollowInTurn};
 ghost use Rattle.pg_relaxed.specs.Words.{AreWordsOf};
 
 use crate::edge::Edge;
-use crate::precede::{ended_before, is_own, must_precede};
+use crate::own::is_own;
 use crate::refuter::refute_so;
 use crate::words::Words;
 use pg_event::Event;
-use pg_spanned::SpannedRun;
+use pg_spanned::{SpannedRun, ended_before, must_precede};
 use std::alloc::{AllocError, Global};
 
 /// So much is looked at in all.

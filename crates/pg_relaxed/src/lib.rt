@@ -9,7 +9,7 @@ mod edge;
 mod held;
 mod impossible;
 mod laws;
-mod precede;
+mod own;
 mod refuter;
 mod slot;
 mod table;

@@ -4,7 +4,6 @@ ghost use Rattle.std.specs.Prelude.{◌≡◌, ℕ, ◌<◌, ◌≤◌, ◌^◌,
 ghost use Rattle.std.specs.Prelude.{slice_get, true, Some};
 ghost use Rattle.pg_entry.specs.Kinds.{kind_of};
 ghost use Rattle.pg_event.specs.Form.{processor_of};
-ghost use Rattle.pg_event.specs.Values.{started};
 ghost use Rattle.pg_event.specs.Wants.{want_of};
 ghost use Rattle.pg_machine.specs.Machine.{Answers, IsIn, is_usable, may_serve};
 ghost use Rattle.pg_relaxed.specs.Caches.{CannotCome, HasNoFault, HasNoAnswer, known_of, kind_for};
@@ -19,18 +18,17 @@ ghost use Rattle.pg_relaxed.specs.Words.{AreWordsOf};
 use crate::caches::Caches;
 use crate::edge::Edge;
 use crate::laws::without_a_witness;
-use crate::precede::ended_before;
 use crate::slot::Slot;
 use crate::table::Table;
 use crate::updates::{Update, has_no_update};
 use crate::words::Words;
 use pg_entry::{AccessKind, Cause, Entry, Kind, Op, allowed, classify, error_code, page_offset};
 use pg_event::{
-    Control, Event, Header, Outcome, Version, Want, access_kind, entry_address, loaded,
-    processor_of, says_dirty, translation_matches, want_of,
+    Control, Event, Header, Outcome, Version, Want, access_kind, entry_address, processor_of,
+    says_dirty, translation_matches, want_of,
 };
 use pg_machine::Translation;
-use pg_spanned::SpannedRun;
+use pg_spanned::{SpannedRun, ended_before, started};
 use std::alloc::{AllocError, Global};
 
 /// So much is looked at for one event.
@@ -50,25 +48,6 @@ struct Asked {
     kind: AccessKind,
     la: u64,
     outcome: Outcome,
-}
-
-/// The control registers of a processor at the start.
-fn started(header: &Header, p: u16) -> Control
-    requires width { (36 ≤ header.now.cfg.m) × (header.now.cfg.m ≤ 52) }
-    ensures value { result
-        ≡ started header.now.cfg.m (slice_get header.now.processors p) }
-    ensures within { result.root < 2 ^ 52 }
-{
-    if (p as usize) < header.processors.len() {
-        let start = header.processors[p as usize];
-        loaded(header.cfg.m, start.0, start.1)
-    } else {
-        Control {
-            root: 0,
-            pcid: 0,
-            pge: false,
-        }
-    }
 }
 
 /// Whether a translation may be used for a write: where dirty flags are judged, its leaf had D
@@ -287,7 +266,7 @@ fn refute_walk(
     }
     let header = run.header();
     let events = run.events();
-    let mut caches = Caches::new(words.alloc, started(header, p));
+    let mut caches = Caches::new(words.alloc, started(run, p));
     let mut ended = 0;
     for next in 0..number {
         let event = &events[next as usize];

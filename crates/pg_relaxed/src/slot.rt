@@ -4,8 +4,8 @@ ghost use Rattle.std.specs.Prelude.{◌<◌, ◌↔◌, length, IsTrue};
 ghost use Rattle.pg_relaxed.specs.Memory.{IsPast, IsToCome, IsSupposedPast, IsSupposedLater};
 
 use crate::edge::Edge;
-use crate::precede::{is_own, must_precede};
-use pg_spanned::SpannedRun;
+use crate::own::is_own;
+use pg_spanned::{SpannedRun, must_precede};
 
 /// A time of a processor just before one of its events and after the one before.
 #[derive(Clone, Copy)]

@@ -9,11 +9,10 @@ ghost use Rattle.pg_relaxed.specs.Words.{IsWritten, WritesValue, AreBelow, IsPla
 ghost use Rattle.pg_relaxed.specs.Words.{IsMarkedIn, AreAssistsOf, AreAssistsBelow, IsNotSet};
 ghost use Rattle.pg_relaxed.specs.Words.{IsFlaggedIn, IsHeldIn};
 
-use crate::precede::{ended_before, must_precede};
 use crate::slot::{Slot, is_past, is_to_come};
 use pg_entry::{Entry, marked};
 use pg_event::{Event, MemoryChange, says_dirty};
-use pg_spanned::SpannedRun;
+use pg_spanned::{SpannedRun, ended_before, must_precede};
 use std::alloc::{AllocError, Global};
 
 /// What a word costs beside its writes.

@@ -3,4 +3,4 @@ pub mod Found
 pub mod Bounds
 pub mod Orders
 pub mod Ends
-pub mod Nexts
+mod Musts

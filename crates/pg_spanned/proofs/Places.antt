@@ -1,5 +1,5 @@
 -- Numbers of a list by their places.
-use Rattle.std.proofs.Common.{◌≡◌, ℕ, zero, suc, ◌<◌, ◌≤◌, true, ◌||◌, List, [], ◌∷◌, length, get_or, refl, sym, ap, subst, ◌∙◌, arith, inl, inr, Some, eqb, eq-eqb}
+use Rattle.std.proofs.Common.{◌≡◌, ℕ, zero, suc, ◌<◌, ◌≤◌, true, ◌||◌, List, [], ◌∷◌, length, get_or, refl, sym, ap, subst, ◌∙◌, arith, inl, inr, Some, None, eqb, eq-eqb}
 use Rattle.std.specs.Prelude.{slice_get}
 use Rattle.std.specs.List.{AllByRecursion, Contains, list_any}
 use Rattle.std.proofs.Math.Bool.{or-true}
@@ -9,6 +9,11 @@ use Rattle.std.proofs.lemmas.Map.Steps.{le-length_from_below}
 
 pub some_same : (x y : ℕ) → Some x ≡ Some y → x ≡ y
 some_same x y h = cc
+
+pub none_at : {X : Type 0} (xs : List X) (i : ℕ) → length xs ≤ i → slice_get xs i ≡ None
+none_at [] i le = refl
+none_at (y ∷ ys) zero le = absurd (omega (arith, le))
+none_at (y ∷ ys) (suc i) le = none_at ys i (omega (arith, le))
 
 -- what was read at a place, whatever stands past the end
 pub read_at : (xs : List ℕ) (i x : ℕ) → i < length xs → x ≡ get_or xs i x → x ≡ get_or xs i 0

@@ -1,6 +1,6 @@
 //! Laws of orders. Each function does nothing: its contract is the law.
 
-ghost use Rattle.pg_spanned.specs.Laws.{EndsAreAnOrder, NoOtherOrder};
+ghost use Rattle.pg_spanned.specs.Laws.{EndsAreAnOrder, NoOtherOrder, PrecedesByMust};
 
 /// The order in which events ended is one of their orders, so that each run has one.
 pub fn ends_are_an_order()
@@ -11,4 +11,9 @@ pub fn ends_are_an_order()
 /// only one.
 pub fn no_other_order()
     ensures { NoOtherOrder }
+{}
+
+/// By their spans one event comes before another just where it must in every order.
+pub fn precedes_by_must()
+    ensures { PrecedesByMust }
 {}

@@ -1,4 +1,3 @@
 pub mod Controls
 pub mod Shown
-pub mod Musts
 mod Dropping

@@ -27,10 +27,10 @@ use Rattle.pg_relaxed.specs.Impossible.{may_be_given}
 use Rattle.pg_spanned.specs.Orders.{Spanned, ended_before}
 use Rattle.pg_spanned_text.specs.declared.parts.ReadAfter.{ReadAfter}
 use Rattle.pg_spanned_text.specs.declared.seen.Seen.{Seen}
-use Rattle.pg_spanned_text.specs.declared.span.Span.{Span}
+use Rattle.pg_spanned.specs.declared.span.Span.{Span}
 use Rattle.pg_spanned_text.specs.Lines.{began_line}
 use Rattle.pg_spanned_text.specs.Parts.{walked_address, Parts, parts_of}
-use Rattle.pg_spanned_text.specs.Spans.{span_of}
+use Rattle.pg_spanned.specs.Spans.{span_of}
 use Rattle.pg_spanned_text.specs.Text.{may_lines, cannot_lines}
 
 -- the line of an event with this number

@@ -1,19 +1,11 @@
--- Laws of the tests that stand in a cause.
-use Rattle.std.specs.Prelude.{◌≡◌, ℕ, ◌↔◌, true, false, Some, slice_get}
+-- A law of the tests that stand in a cause.
+use Rattle.std.specs.Prelude.{◌≡◌, ℕ, true, false}
 use Rattle.pg_entry.specs.declared.Level.{Level}
 use Rattle.pg_event.specs.declared.control.Control.{Control}
 use Rattle.pg_event.specs.declared.event.Event.{Event}
 use Rattle.pg_event.specs.Invalidation.{level_shift, structure_key, translation_key}
 use Rattle.pg_event.specs.Invalidation.{must_drop_structure, must_drop_translation}
-use Rattle.pg_spanned.specs.Orders.{Spanned, MustPrecede}
 use Rattle.pg_spanned_text.specs.Drops.{drops_page}
-use Rattle.pg_spanned_text.specs.Spans.{precedes, span_of}
-
--- one event comes before another by their spans just where it must in every order
-abbrev pub PrecedesByMust : Type 0
-PrecedesByMust = (s : Spanned) (j i : ℕ) (first second : Event) →
-    slice_get s.events j ≡ Some first → slice_get s.events i ≡ Some second →
-    (precedes (span_of s j first) (span_of s i second) ≡ true) ↔ MustPrecede s j i
 
 -- an event after which a page is said to be read must drop the translations of its addresses by
 -- pages of each size, but for global ones, and the paging-structure-cache entry of each level

@@ -1,5 +1,4 @@
 pub mod Lines
-pub mod Spans
 pub mod Drops
 pub mod Words
 pub mod Seen

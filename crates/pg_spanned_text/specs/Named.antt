@@ -7,9 +7,9 @@ use Rattle.pg_spanned.specs.Orders.{Spanned}
 use Rattle.pg_spanned_text.specs.declared.parts.ReadAfter.{ReadAfter}
 use Rattle.pg_spanned_text.specs.declared.seen.Gone.{Gone}
 use Rattle.pg_spanned_text.specs.declared.seen.Seen.{Seen}
-use Rattle.pg_spanned_text.specs.declared.span.Span.{Span}
+use Rattle.pg_spanned.specs.declared.span.Span.{Span}
 use Rattle.pg_spanned_text.specs.Parts.{walked_address, Parts, parts_of}
-use Rattle.pg_spanned_text.specs.Spans.{span_of}
+use Rattle.pg_spanned.specs.Spans.{span_of}
 
 -- a number after others, unless it is there, or they are 40 already
 abbrev pub put_name : List ℕ → ℕ → List ℕ

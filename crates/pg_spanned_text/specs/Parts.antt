@@ -12,10 +12,10 @@ use Rattle.pg_spanned_text.specs.declared.parts.ReadAfter.{ReadAfter}
 use Rattle.pg_spanned_text.specs.declared.parts.WalkCause.{WalkCause}
 use Rattle.pg_spanned_text.specs.declared.seen.Seen.{Seen}
 use Rattle.pg_spanned_text.specs.declared.seen.Walk.{Walk}
-use Rattle.pg_spanned_text.specs.declared.span.Span.{Span}
+use Rattle.pg_spanned.specs.declared.span.Span.{Span}
 use Rattle.pg_spanned_text.specs.Drops.{keeps_global, last_drop, roots}
 use Rattle.pg_spanned_text.specs.Seen.{seen_of}
-use Rattle.pg_spanned_text.specs.Spans.{span_at}
+use Rattle.pg_spanned.specs.Spans.{span_at}
 
 -- the linear address whose walk an event names
 abbrev pub walked_address : Event → Option ℕ

@@ -2,7 +2,7 @@
 -- each event has a row, and the rows stand in the order of numbers. Each processor has a lane. The
 -- bar of an event stands in its processor's lane, from the first row whose event ends after it
 -- began down to its own row; the lines of events stand right of the lanes.
-use Rattle.std.specs.Prelude.{ℕ, ◌+◌, ◌-◌, ◌*◌, Bool, not, ◌==◌, nat_lt, min, if◌then◌else◌, fold}
+use Rattle.std.specs.Prelude.{ℕ, ◌+◌, ◌-◌, ◌*◌, Bool, ◌==◌, nat_lt, min, if◌then◌else◌, fold}
 use Rattle.std.specs.Prelude.{List, [], ◌∷◌, ◌++◌, Option, Some, None, codes, decimal}
 use Rattle.std.specs.Prelude.{length, slice_get, count_by}
 use Rattle.std.specs.List.{list_any}

@@ -13,7 +13,7 @@ use Rattle.pg_spanned.specs.Orders.{Spanned}
 use Rattle.pg_spanned_text.specs.declared.seen.Gone.{Gone}
 use Rattle.pg_spanned_text.specs.declared.seen.Seen.{Seen}
 use Rattle.pg_spanned_text.specs.declared.seen.Walk.{Walk}
-use Rattle.pg_spanned_text.specs.declared.span.Span.{Span}
+use Rattle.pg_spanned.specs.declared.span.Span.{Span}
 use Rattle.pg_spanned_text.specs.declared.words.Written.{Written}
 use Rattle.pg_spanned_text.specs.Drops.{put_once}
 use Rattle.pg_spanned_text.specs.Words.{writes_of, overwriter, is_any_before}

@@ -6,9 +6,9 @@ use Rattle.pg_event.specs.declared.event.Event.{Event}
 use Rattle.pg_event.specs.declared.event.Event.TheVariants.{Write, Access, Assist, MovCr3, Invlpg}
 use Rattle.pg_event.specs.declared.event.Event.TheVariants.{Invpcid, MovCr4Pge}
 use Rattle.pg_spanned.specs.Orders.{Spanned}
-use Rattle.pg_spanned_text.specs.declared.span.Span.{Span}
+use Rattle.pg_spanned.specs.declared.span.Span.{Span}
 use Rattle.pg_spanned_text.specs.declared.words.Written.{Written}
-use Rattle.pg_spanned_text.specs.Spans.{precedes, span_of}
+use Rattle.pg_spanned.specs.Spans.{precedes, span_of}
 
 -- the write of an event to a word, where it need not come after the asked event
 abbrev pub write_of : Spanned → Span → ℕ → ℕ → Event → List Written

@@ -3,7 +3,7 @@
 ghost use Rattle.std.specs.Prelude.{◌≡◌, ◌++◌, ◌<◌, ◌≤◌, IfOk, OnOk, length, slice_get};
 ghost use Rattle.std.specs.Prelude.{string_bytes};
 ghost use Rattle.std.specs.Option.{ForSome};
-ghost use Rattle.pg_spanned_text.specs.Spans.{span_of};
+ghost use Rattle.pg_spanned.specs.Spans.{span_of};
 ghost use Rattle.pg_spanned_text.specs.Parts.{parts_in};
 ghost use Rattle.pg_spanned_text.specs.Cause.{numbered_line, after_name, after_event, after_text};
 ghost use Rattle.pg_spanned_text.specs.Cause.{version_text, entries_text, parts_text, walk_text};
@@ -14,11 +14,10 @@ use crate::lines::push_began;
 use crate::parts::{ReadAfter, WalkCause, walk_cause, walked_address};
 use crate::seen::Seen;
 use crate::seen_lines::{push_cannot_lines, push_may_lines};
-use crate::span::{ended_before, event_of};
 use pg_entry::Cfg;
 use pg_event::{Event, Header, Outcome, Version};
 use pg_relaxed::may_be_given;
-use pg_spanned::SpannedRun;
+use pg_spanned::{SpannedRun, ended_before, event_of};
 use std::alloc::{AllocError, Global};
 
 /// Appends the line of the event with this number.

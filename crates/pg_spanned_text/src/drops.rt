@@ -1,40 +1,18 @@
 //! After which of its events a processor must read the entries of a page anew.
 
 ghost use Rattle.std.specs.Prelude.{◌≡◌, ◌+◌, ◌<◌, ◌≤◌, IfOk, OnOk, length};
-ghost use Rattle.std.specs.Prelude.{slice_get};
 ghost use Rattle.std.specs.Option.{ForSome};
-ghost use Rattle.pg_event.specs.Values.{control_at, started};
+ghost use Rattle.pg_event.specs.Values.{control_at};
 ghost use Rattle.pg_spanned_text.specs.Drops.{drops_page, keeps_global, drops_by, last_drop};
 ghost use Rattle.pg_spanned_text.specs.Drops.{put_once, put_root, roots};
 
-use crate::span::event_of;
-use pg_event::{
-    Control, Event, Header, controlled, loaded, must_drop_translation, processor_of,
-    translation_key,
-};
-use pg_spanned::SpannedRun;
+use pg_event::{Control, Event, controlled, must_drop_translation, processor_of, translation_key};
+use pg_spanned::{SpannedRun, event_of, started};
 use std::alloc::{AllocError, Global};
 
 /// So many tables of a level are read. It is one more than the lines that are written, so that
 /// these don't all fit where some table is not read.
 pub(crate) const MOST_TABLES: usize = 65;
-
-/// The control registers of a processor at the start.
-fn started(header: &Header, p: u16) -> Control
-    requires { (36 ≤ header.now.cfg.m) × (header.now.cfg.m ≤ 52) }
-    ensures { result ≡ started header.now.cfg.m (slice_get header.now.processors p) }
-{
-    if (p as usize) < header.processors.len() {
-        let start = header.processors[p as usize];
-        loaded(header.cfg.m, start.0, start.1)
-    } else {
-        Control {
-            root: 0,
-            pcid: 0,
-            pge: false,
-        }
-    }
-}
 
 /// The control registers of a processor just before an event.
 pub(crate) fn control_before(run: &SpannedRun, p: u16, number: u32) -> Control
@@ -42,7 +20,7 @@ pub(crate) fn control_before(run: &SpannedRun, p: u16, number: u32) -> Control
     ensures { result ≡ control_at run.now.head run.now.events p number }
 {
     let header = run.header();
-    let mut control = started(header, p);
+    let mut control = started(run, p);
     for i in 0..number {
         control = controlled(header.cfg.m, p, control, event_of(run, i));
     }
@@ -79,7 +57,7 @@ pub(crate) fn last_drop(run: &SpannedRun, p: u16, pcid: u16, la: u64, number: u3
     ensures within { ForSome result (λ d. d < number) }
 {
     let header = run.header();
-    let mut control = started(header, p);
+    let mut control = started(run, p);
     let mut last = None;
     for i in 0..number {
         let event = event_of(run, i);

@@ -1,11 +1,6 @@
-//! Laws of the tests that stand in a cause. Each function does nothing: its contract is the law.
+//! A law of the tests that stand in a cause. The function does nothing: its contract is the law.
 
-ghost use Rattle.pg_spanned_text.specs.Laws.{PrecedesByMust, DropsAllOfAPage};
-
-/// One event comes before another by what a cause looks at just where it must in every order.
-pub fn precedes_by_must()
-    ensures { PrecedesByMust }
-{}
+ghost use Rattle.pg_spanned_text.specs.Laws.{DropsAllOfAPage};
 
 /// The event of a line `read after:` must drop all that is cached of the page under the PCID and is
 /// not global: the translations by pages of each size, and the paging-structure-cache entries.

@@ -12,13 +12,11 @@ mod parts;
 mod picture;
 mod seen;
 mod seen_lines;
-mod span;
 mod words;
 
 pub use cause::cause_text;
-pub use laws::{drops_all_of_a_page, precedes_by_must};
+pub use laws::drops_all_of_a_page;
 pub use lines::{push_began, spanned_lines};
 pub use parts::{ReadAfter, WalkCause, walk_cause, walked_address};
 pub use picture::cause_picture;
 pub use seen::{Gone, Seen};
-pub use span::{ended_before, event_of};

@@ -3,10 +3,9 @@
 ghost use Rattle.std.specs.Prelude.{◌≡◌, ◌++◌, ◌<◌, IfOk, OnOk, length, string_bytes};
 ghost use Rattle.pg_spanned_text.specs.Lines.{began_line, spanned_line, spanned_lines};
 
-use crate::span::ended_before;
 use pg_event::{Event, Selection, processor_of};
 use pg_explain::{fits, is_marked, marks_of, push_claim_line};
-use pg_spanned::SpannedRun;
+use pg_spanned::{SpannedRun, ended_before};
 use std::alloc::{AllocError, Global};
 
 /// Appends the line of an event with its span, without its end. Fails only when out of memory, and

@@ -1,15 +1,14 @@
 //! The events that a cause names.
 
 ghost use Rattle.std.specs.Prelude.{◌≡◌, ◌<◌, IfOk, OnOk, length};
-ghost use Rattle.pg_spanned_text.specs.Spans.{span_of};
+ghost use Rattle.pg_spanned.specs.Spans.{span_of};
 ghost use Rattle.pg_spanned_text.specs.Named.{put_name, put_some, put_after, put_gone, put_names};
 ghost use Rattle.pg_spanned_text.specs.Named.{put_all, named_by, named_walk, named};
 
 use crate::parts::{ReadAfter, walk_cause, walked_address};
 use crate::seen::{Gone, Seen};
-use crate::span::event_of;
 use pg_event::Event;
-use pg_spanned::SpannedRun;
+use pg_spanned::{SpannedRun, event_of};
 use std::alloc::{AllocError, Global};
 
 /// So many events are named.

@@ -2,16 +2,15 @@
 
 ghost use Rattle.std.specs.Prelude.{◌≡◌, ◌<◌, IfOk, length};
 ghost use Rattle.std.specs.Option.{ForSome};
-ghost use Rattle.pg_spanned_text.specs.Spans.{span_of};
+ghost use Rattle.pg_spanned.specs.Spans.{span_of};
 ghost use Rattle.pg_spanned_text.specs.Parts.{walked_address, read_after, span_of_some};
 ghost use Rattle.pg_spanned_text.specs.Parts.{seen_behind, open_ones, gone_ones};
 ghost use Rattle.pg_spanned_text.specs.Parts.{parts_in, parts_behind, parts_of};
 
 use crate::drops::{control_before, keeps_global, last_drop, roots};
 use crate::seen::{Seen, Walk, seen_of};
-use crate::span::{Span, event_of, span_of};
 use pg_event::Event;
-use pg_spanned::SpannedRun;
+use pg_spanned::{Span, SpannedRun, event_of, span_of};
 use std::alloc::{AllocError, Global};
 
 /// The event of a processor after which a walk of it reads its entries in every order.

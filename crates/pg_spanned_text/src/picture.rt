@@ -13,9 +13,8 @@ ghost use Rattle.pg_spanned_text.specs.Picture.{shown_byte, shown_bytes, below_a
 use crate::cause::cause_text;
 use crate::lines::push_began;
 use crate::named::named;
-use crate::span::{ended_before, event_of};
 use pg_event::{Event, processor_of};
-use pg_spanned::SpannedRun;
+use pg_spanned::{SpannedRun, ended_before, event_of};
 use std::alloc::{AllocError, Global};
 
 /// So many rows and lanes are drawn.

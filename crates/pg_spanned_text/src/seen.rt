@@ -7,11 +7,10 @@ ghost use Rattle.pg_spanned_text.specs.Seen.{put_below, put_table, tables_below}
 ghost use Rattle.pg_spanned_text.specs.Seen.{seen_next, seen_of};
 
 use crate::drops::put_once;
-use crate::span::Span;
 use crate::words::{Written, is_any_before, overwriter, writes_of};
 use pg_entry::{Cfg, Entry, Kind, Level, classify};
 use pg_event::entry_address;
-use pg_spanned::SpannedRun;
+use pg_spanned::{Span, SpannedRun};
 use std::alloc::{AllocError, Global};
 
 /// That a value is overwritten in every order.

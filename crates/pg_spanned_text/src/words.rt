@@ -4,9 +4,8 @@ ghost use Rattle.std.specs.Prelude.{◌≡◌, ◌++◌, ◌<◌, IfOk, OnOk, le
 ghost use Rattle.pg_spanned_text.specs.Words.{write_of, writes_of, overwrites, overwriter};
 ghost use Rattle.pg_spanned_text.specs.Words.{is_any_before};
 
-use crate::span::{Span, precedes, span_of};
 use pg_event::Event;
-use pg_spanned::SpannedRun;
+use pg_spanned::{Span, SpannedRun, precedes, span_of};
 use std::alloc::{AllocError, Global};
 
 /// A write to a word.

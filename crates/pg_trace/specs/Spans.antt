@@ -10,7 +10,7 @@ use Rattle.pg_spanned.specs.Orders.{Spanned, ended_before}
 use Rattle.pg_spanned_text.specs.declared.seen.Seen.{Seen}
 use Rattle.pg_spanned_text.specs.Cause.{cause_text}
 use Rattle.pg_spanned_text.specs.Parts.{parts_of, walked_address}
-use Rattle.pg_spanned_text.specs.Spans.{span_of}
+use Rattle.pg_spanned.specs.Spans.{span_of}
 use Rattle.pg_trace.specs.declared.mark.Cause.TheVariants.{NoOrder}
 use Rattle.pg_trace.specs.declared.mark.Role.TheVariants as roles
 use Rattle.pg_trace.specs.declared.mark.Source.{Source}

@@ -14,8 +14,8 @@ use crate::objects::{Slot, ending, opening, others_of, push_slice};
 use crate::writer::{is_chosen, processor_count};
 use pg_event::{Event, Selection, processor_of};
 use pg_json::began_fields;
-use pg_spanned::SpannedRun;
-use pg_spanned_text::{Seen, cause_text, ended_before, event_of, walk_cause, walked_address};
+use pg_spanned::{SpannedRun, ended_before, event_of};
+use pg_spanned_text::{Seen, cause_text, walk_cause, walked_address};
 use std::alloc::{AllocError, Global};
 
 /// Behind an event with this number, if it is of a processor, and else where it was.

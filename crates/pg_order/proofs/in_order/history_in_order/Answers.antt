@@ -1,4 +1,3 @@
-use Rattle.std.proofs.lemmas.Result.{IfOk-weaker}
 use Rattle.pg_order.proofs.Fronts.{numbers_of_order}
 use Rattle.pg_order.proofs.in_order.history_in_order.Goals as goal
 

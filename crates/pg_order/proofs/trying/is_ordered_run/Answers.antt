@@ -1,6 +1,5 @@
 use Rattle.std.proofs.Common.{ℕ, List, subst}
 use Rattle.pg_spanned.specs.Orders.{Spanned}
-use Rattle.pg_order.specs.declared.in_order.InOrder.{InOrder}
 use Rattle.pg_order.specs.declared.in_order.InOrder.TheVariants.{Certified, Denied, NoOrder}
 use Rattle.pg_order.specs.Runs.{IsToldOf, HasRunIfCertified}
 use Rattle.pg_order.proofs.Fronts.{none_begins_denied, none_begins_whole, numbers_of_order}

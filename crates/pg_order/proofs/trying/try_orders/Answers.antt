@@ -1,4 +1,4 @@
-use Rattle.std.proofs.Common.{◌≡◌, ◌+◌, ◌/◌, ◌<◌, ◌≤◌, ℕ, [], List, length, sym, ap, subst, arith, inl, inr}
+use Rattle.std.proofs.Common.{◌+◌, ◌/◌, ◌≤◌, ℕ, [], List, length, sym, ap, subst, arith, inl, inr}
 use Rattle.std.proofs.lemmas.Bool.{cases_lt}
 use Rattle.pg_spanned.specs.Orders.{Spanned}
 use Rattle.pg_order.specs.declared.trying.Trying.{Trying}

@@ -26,8 +26,7 @@ loop-next-init c =
     let s : Spanned = c.args.run.now in
     let p : ℕ = c.args.walk.p in
     let empty : Control → Known = λ d. record { control = d; tables = []; translations = [] } in
-    let control : c.started.result ≡ started s.head.cfg.m (slice_get s.head.processors p) =
-    c.started.ensures.value ∙ ap (λ (h : Head). started h.cfg.m (slice_get h.processors p)) c.header-header.ensures.header in
+    let control : c.started.result ≡ started s.head.cfg.m (slice_get s.head.processors p) = c.started.ensures.value in
     record {
       words = subst (AreWordsOf s.events) (sym c.may_look.ensures) c.requires.words;
       root = subst (λ (k : Known). k.control.root < 2 ^ 52) (sym c.new-caches.ensures) c.started.ensures.within;

@@ -5,7 +5,7 @@ use Rattle.pg_event.specs.declared.event.Event.{Event}
 use Rattle.pg_spanned.specs.Orders.{Spanned}
 use Rattle.pg_spanned_text.specs.Cause.{head_text, walk_text}
 use Rattle.pg_spanned_text.specs.Parts.{walked_address}
-use Rattle.pg_spanned_text.specs.Spans.{span_of}
+use Rattle.pg_spanned.specs.Spans.{span_of}
 use Rattle.pg_spanned_text.proofs.cause.push_event.Goals as goal
 
 pub returns-in-Some : goal.returns-in-Some

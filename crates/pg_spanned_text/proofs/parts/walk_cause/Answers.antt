@@ -1,7 +1,7 @@
 use Rattle.std.proofs.Common.{◌≡◌, IfOk, subst}
 use Rattle.pg_spanned.specs.Orders.{Spanned}
 use Rattle.pg_spanned_text.specs.declared.parts.WalkCause.{WalkCause}
-use Rattle.pg_spanned_text.specs.declared.span.Span.{Span}
+use Rattle.pg_spanned.specs.declared.span.Span.{Span}
 use Rattle.pg_spanned_text.specs.Parts.{parts_in, parts_of}
 use Rattle.pg_spanned_text.proofs.parts.walk_cause.Goals as goal
 

@@ -1,4 +1,4 @@
-use Rattle.std.proofs.Common.{◌≡◌, ◌++◌, List, ℕ, Option, Some, ap, sym, ◌∙◌, string_bytes}
+use Rattle.std.proofs.Common.{◌≡◌, ◌++◌, List, ℕ, Option, ap, sym, ◌∙◌, string_bytes}
 use Rattle.std.proofs.lemmas.List.{append_assoc}
 use Rattle.std.proofs.lemmas.Result.{on_ok_weaker}
 use Rattle.pg_event.specs.declared.event.Event.{Event}
@@ -18,7 +18,7 @@ returns c =
     let old = string_bytes c.args.text.now in
     let lane : c.place_below-lane.result ≡ place_below lanes (processor_of e) = c.place_below-lane.ensures.place ∙ ap (place_below lanes) c.processor_of.ensures in
     let row : c.place_below-row.result ≡ place_below names number = c.place_below-row.ensures.place in
-    let from : c.place_below.result ≡ place_below names (ended_before s number) = c.place_below.ensures.place ∙ ap (place_below names) c.ended_before-began.ensures in
+    let from : c.place_below.result ≡ place_below names (ended_before s number) = c.place_below.ensures.place ∙ ap (place_below names) c.ended_before-began.ensures.count in
     let bar : List ℕ = bar_line (place_below lanes (processor_of e)) (place_below names (ended_before s number)) (place_below names number) fill in
     let label : List ℕ = label_line (count_of lanes) (place_below names number) fill number (ended_before s number) e in
     let barred : string_bytes c.push_bar.new.text ≡ old ++ bar =
@@ -30,7 +30,7 @@ returns c =
     let labelled : two ++ label_line c.count_of.result c.place_below-row.result fill number c.ended_before-began.result e ≡ two ++ label =
     ap (λ (n : ℕ). two ++ label_line n c.place_below-row.result fill number c.ended_before-began.result e) c.count_of.ensures.count
     ∙ (ap (λ (r : ℕ). two ++ label_line (count_of lanes) r fill number c.ended_before-began.result e) row
-    ∙ ap (λ (b : ℕ). two ++ label_line (count_of lanes) (place_below names number) fill number b e) c.ended_before-began.ensures) in
+    ∙ ap (λ (b : ℕ). two ++ label_line (count_of lanes) (place_below names number) fill number b e) c.ended_before-began.ensures.count) in
     on_ok_weaker c.push_label.result
     (λ (w : string_bytes c.push_label.new.text ≡ two ++ label_line c.count_of.result c.place_below-row.result fill number c.ended_before-began.result e).
     w ∙ (labelled

@@ -4,7 +4,7 @@ use Rattle.std.specs.Option.{option_map}
 use Rattle.pg_event.specs.declared.event.Event.{Event}
 use Rattle.pg_event.specs.Form.{processor_of}
 use Rattle.pg_spanned.specs.Orders.{Spanned, ended_before}
-use Rattle.pg_spanned_text.specs.declared.span.Span.{Span}
+use Rattle.pg_spanned.specs.declared.span.Span.{Span}
 
 -- when an event with this number came
 abbrev pub span_of : Spanned → ℕ → Event → Span

@@ -1,14 +1,15 @@
--- Why the tests that stand in a cause say what they are to.
-use Rattle.std.proofs.Common.{◌≡◌, ℕ, ◌<◌, Bool, true, false, ◌&&◌, ◌||◌, eqb, ltb, Option, Some, refl, ap, sym, ◌∙◌, inl, inr, ◌⊎◌}
-use Rattle.std.specs.Prelude.{slice_get}
+-- By their spans one event comes before another just where it must in every order.
+use Rattle.std.proofs.Common.{◌≡◌, ℕ, ◌≤◌, Bool, true, false, ◌&&◌, ◌||◌, eqb, ltb, Some, refl, ap, sym, ◌∙◌, arith, inl, inr, ◌⊎◌}
+use Rattle.std.specs.Prelude.{◌↔◌, slice_get}
 use Rattle.std.specs.Option.{option_map}
 use Rattle.std.proofs.lemmas.Bool.{eqb-true, eq-eqb, ltb-true, lt-ltb}
 use Rattle.std.proofs.lemmas.Option.{slice_get_within}
 use Rattle.pg_event.specs.declared.event.Event.{Event}
 use Rattle.pg_event.specs.Form.{processor_of}
 use Rattle.pg_spanned.specs.Orders.{Spanned, MustPrecede, AreOfOneProcessor, ended_before}
-use Rattle.pg_spanned_text.specs.Spans.{precedes, span_of}
-use Rattle.pg_spanned_text.specs.Laws.{PrecedesByMust}
+use Rattle.pg_spanned.specs.declared.span.Span.{Span}
+use Rattle.pg_spanned.specs.Spans.{precedes, span_of}
+use Rattle.pg_spanned.specs.Laws.{PrecedesByMust}
 
 one_of : (a b : Bool) → (a || b) ≡ true → (a ≡ true) ⊎ (b ≡ true)
 one_of true b h = inl refl
@@ -65,3 +66,17 @@ from_must s j i x y hx hy must =
 
 pub precedes_by_must : PrecedesByMust
 precedes_by_must s j i x y hx hy = (to_must s j i x y hx hy, from_must s j i x y hx hy)
+
+-- by what is known of both
+pub must_by_spans : (s : Spanned) (j i : ℕ) (x y : Event) (first second : Span) (is : Bool) → slice_get s.events j ≡ Some x → slice_get s.events i ≡ Some y →
+    first ≡ span_of s j x → second ≡ span_of s i y → is ≡ precedes first second → (is ≡ true) ↔ MustPrecede s j i
+must_by_spans s j i x y first second is there here a b same =
+    let whole : is ≡ precedes (span_of s j x) (span_of s i y) = same ∙ (ap (λ (f : Span). precedes f second) a ∙ ap (λ (l : Span). precedes (span_of s j x) l) b) in
+    (λ yes. to_must s j i x y there here (sym whole ∙ yes), λ must. whole ∙ from_must s j i x y there here must)
+
+-- what comes no later does not
+pub not_behind : (s : Spanned) (j i : ℕ) → i ≤ j → MustPrecede s j i → ⊥
+not_behind s j i le must = elim must.why [
+  | inl ended ↦ omega (arith, ended, le)
+  | inr own ↦ omega (arith, own.0, le)
+]
