@@ -288,8 +288,7 @@ def look_at_plan(name, given, files):
     if is_mixed or is_alone or any(one in given and other in given for one, other in EXCLUSIVE):
         raise Answer(USAGE, errors=CONFLICT)
     is_signed = {option for option in NUMBERS if (given.get(option) or "").startswith("+")}
-    # (the program looks at these options first, whatever the command is)
-    if is_torn({*given}) or is_signed & {"most", "event"}:
+    if name == "explain" and (is_torn({*given}) or is_signed & {"most", "event"}):
         raise Answer(USAGE, errors=NO_TELLING)
     if is_signed:
         raise Answer(USAGE, errors=NO_NUMBER)
