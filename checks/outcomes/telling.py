@@ -15,7 +15,8 @@ def outcomes(program, data, number):
 
 def allowed_lines(text):
     """The lines for an event of which `outcomes` writes this text; none where it is no access."""
-    _, *found, last = text.splitlines()
+    # (what gives an outcome stands indented behind it)
+    _, *found, last = (line for line in text.splitlines() if not line.startswith("  "))
     if not last.startswith("outcomes: "):
         return ""
     more = len(found) - MOST

@@ -9,7 +9,8 @@ EVENT = "event: 5 cpu 0 user read 0x5123 -> 0x9123\n"
 
 class AllowedLines(unittest.TestCase):
     def test_each_outcome_in_a_line(self):
-        text = EVENT + "0x9123 by 4 4 4 4\nfault 0x4 by 5 5 5 5\noutcomes: 2\n"
+        text = (EVENT + "0x9123 by 4 4 4 4\n  level 4: moment 4 pcid 0x0 [0x1000] = 0x2007 table, written by event 0\n"
+                "  cached since 4, dropped by nothing\nfault 0x4 by 5 5 5 5\noutcomes: 2\n")
         self.assertEqual(telling.allowed_lines(text),
                          "allowed: 0x9123 by 4 4 4 4\nallowed: fault 0x4 by 5 5 5 5\n")
 

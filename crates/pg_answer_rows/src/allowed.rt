@@ -221,6 +221,11 @@ $ explain --event 4
 < @read_again
 > event: 4 cpu 0 user read 0x5123 -> 0x9123
 > 0x9123 by 4 4 4 4
+>   level 4: moment 4 pcid 0x1 [0x1000] = 0x2007 table, written by event 0
+>   level 3: moment 4 pcid 0x1 [0x2000] = 0x3007 table, written by event 1
+>   level 2: moment 4 pcid 0x1 [0x3000] = 0x4007 table, written by event 2
+>   level 1: moment 4 pcid 0x1 [0x4028] = 0x9007 leaf, written by event 3
+>   cached since 4, dropped by nothing
 > outcomes: 1
 ? 0
 
@@ -228,8 +233,12 @@ $ explain --event 4
 $ explain --json --event 4
 < @read_again
 >+ {"count":1,"event":{"ac":false,"address":"0x5123","cpu":0,"event":4,"kind":"access",
->+ "operation":"read","outcome":{"page":"0x9123"},"user":true},"format":1,"outcomes":[{"by":[4,4,4,
-> 4],"page":"0x9123"}]}
+>+ "operation":"read","outcome":{"page":"0x9123"},"user":true},"format":1,"outcomes":[{"by":[4,4,
+>+ 4,4],"cached_since":4,"page":"0x9123","walk":[{"is":"table","level":4,"moment":4,"pcid":"0x1",
+>+ "value":"0x2007","word":"0x1000","written_by":0},{"is":"table","level":3,"moment":4,
+>+ "pcid":"0x1","value":"0x3007","word":"0x2000","written_by":1},{"is":"table","level":2,
+>+ "moment":4,"pcid":"0x1","value":"0x4007","word":"0x3000","written_by":2},{"is":"leaf",
+> "level":1,"moment":4,"pcid":"0x1","value":"0x9007","word":"0x4028","written_by":3}]}]}
 ? 0
 
 == bad_event_explained
@@ -324,6 +333,11 @@ $ explain --event 4
 < @read_again_unnamed
 > event: 4 cpu 0 user read 0x5123 -> 0x9123
 > 0x9123 by 4 4 4 4
+>   level 4: moment 4 pcid 0x1 [0x1000] = 0x2007 table, written by event 0
+>   level 3: moment 4 pcid 0x1 [0x2000] = 0x3007 table, written by event 1
+>   level 2: moment 4 pcid 0x1 [0x3000] = 0x4007 table, written by event 2
+>   level 1: moment 4 pcid 0x1 [0x4028] = 0x9007 leaf, written by event 3
+>   cached since 4, dropped by nothing
 > outcomes: 1
 ? 0
 "#;

@@ -38,13 +38,24 @@ $ certify --order
 ? 0
 
 # The read is at place 5. The processor invalidated nothing, so the entry before may be used, too.
+# The write of the other entry, event 5, is at place 4.
 == outcomes_in_an_order_that_is_not_that_of_the_ends
 $ outcomes
 < @replaced
 > place: 5
 > event: 4 cpu 1 user read 0x5123 -> 0xa123
 > 0x9123 by 4 4 4 4
+>   level 4: moment 4 pcid 0x0 [0x1000] = 0x2007 table, written by event 0
+>   level 3: moment 4 pcid 0x0 [0x2000] = 0x3007 table, written by event 1
+>   level 2: moment 4 pcid 0x0 [0x3000] = 0x4007 table, written by event 2
+>   level 1: moment 4 pcid 0x0 [0x4028] = 0x9007 leaf, written by event 3
+>   cached since 4, dropped by nothing
 > 0xa123 by 5 5 5 5
+>   level 4: moment 5 pcid 0x0 [0x1000] = 0x2007 table, written by event 0
+>   level 3: moment 5 pcid 0x0 [0x2000] = 0x3007 table, written by event 1
+>   level 2: moment 5 pcid 0x0 [0x3000] = 0x4007 table, written by event 2
+>   level 1: moment 5 pcid 0x0 [0x4028] = 0xa007 leaf, written by event 4
+>   cached since 5, dropped by nothing
 > outcomes: 2
 ? 0
 
@@ -54,6 +65,11 @@ $ outcomes --event 4 --limit 1
 > place: 5
 > event: 4 cpu 1 user read 0x5123 -> 0xa123
 > 0x9123 by 4 4 4 4
+>   level 4: moment 4 pcid 0x0 [0x1000] = 0x2007 table, written by event 0
+>   level 3: moment 4 pcid 0x0 [0x2000] = 0x3007 table, written by event 1
+>   level 2: moment 4 pcid 0x0 [0x3000] = 0x4007 table, written by event 2
+>   level 1: moment 4 pcid 0x0 [0x4028] = 0x9007 leaf, written by event 3
+>   cached since 4, dropped by nothing
 > more: 1
 > outcomes: 2
 ? 0
@@ -79,6 +95,11 @@ $ outcomes
 > place: 5
 > event: 5 cpu 1 user read 0x5123 -> 0x9123
 > 0x9123 by 5 5 5 5
+>   level 4: moment 5 pcid 0x1 [0x1000] = 0x2007 table, written by event 0
+>   level 3: moment 5 pcid 0x1 [0x2000] = 0x3007 table, written by event 1
+>   level 2: moment 5 pcid 0x1 [0x3000] = 0x4007 table, written by event 2
+>   level 1: moment 5 pcid 0x1 [0x4028] = 0x9007 leaf, written by event 3
+>   cached since 5, dropped by nothing
 > outcomes: 1
 ? 0
 
@@ -88,6 +109,11 @@ $ outcomes
 > place: 4
 > event: 3 cpu 1 user read 0x5123 -> 0x9123
 > 0x9123 by 4 4 4 4
+>   level 4: moment 4 pcid 0x0 [0x1000] = 0x2007 table, written by event 0
+>   level 3: moment 4 pcid 0x0 [0x2000] = 0x3007 table, written by event 1
+>   level 2: moment 4 pcid 0x0 [0x3000] = 0x4007 table, written by event 2
+>   level 1: moment 4 pcid 0x0 [0x4028] = 0x9007 leaf, written by event 3
+>   cached since 4, dropped by nothing
 > outcomes: 1
 ? 0
 
@@ -112,6 +138,12 @@ $ outcomes
 > place: 5
 > event: 5 cpu 1 user write 0x5123 -> 0x9123
 > 0x9123 by 5 5 5 5
+>   level 4: moment 5 pcid 0x0 [0x1000] = 0x2027 table, written by event 0
+>   level 3: moment 5 pcid 0x0 [0x2000] = 0x3027 table, written by event 1
+>   level 2: moment 5 pcid 0x0 [0x3000] = 0x4027 table, written by event 2
+>   level 1: moment 5 pcid 0x0 [0x4028] = 0x9067 leaf, written by event 4
+>   cached since 5, dropped by nothing
+>   needs: accessed in [0x1000] [0x2000] [0x3000] [0x4028], dirty in [0x4028]
 > outcomes: 1
 ? 0
 
@@ -171,16 +203,31 @@ $ explain --event 4
 $ outcomes --json
 < @replaced
 >+ {"count":2,"event":{"ac":false,"address":"0x5123","cpu":1,"event":4,"kind":"access",
->+ "operation":"read","outcome":{"page":"0xa123"},"user":true},"format":1,"outcomes":[{"by":[4,4,4,
-> 4],"page":"0x9123"},{"by":[5,5,5,5],"page":"0xa123"}],"place":5}
+>+ "operation":"read","outcome":{"page":"0xa123"},"user":true},"format":1,"outcomes":[{"by":[4,4,
+>+ 4,4],"cached_since":4,"page":"0x9123","walk":[{"is":"table","level":4,"moment":4,"pcid":"0x0",
+>+ "value":"0x2007","word":"0x1000","written_by":0},{"is":"table","level":3,"moment":4,
+>+ "pcid":"0x0","value":"0x3007","word":"0x2000","written_by":1},{"is":"table","level":2,
+>+ "moment":4,"pcid":"0x0","value":"0x4007","word":"0x3000","written_by":2},{"is":"leaf",
+>+ "level":1,"moment":4,"pcid":"0x0","value":"0x9007","word":"0x4028","written_by":3}]},{"by":[5,
+>+ 5,5,5],"cached_since":5,"page":"0xa123","walk":[{"is":"table","level":4,"moment":5,
+>+ "pcid":"0x0","value":"0x2007","word":"0x1000","written_by":0},{"is":"table","level":3,
+>+ "moment":5,"pcid":"0x0","value":"0x3007","word":"0x2000","written_by":1},{"is":"table",
+>+ "level":2,"moment":5,"pcid":"0x0","value":"0x4007","word":"0x3000","written_by":2},
+>+ {"is":"leaf","level":1,"moment":5,"pcid":"0x0","value":"0xa007","word":"0x4028",
+> "written_by":4}]}],"place":5}
 ? 0
 
 == outcomes_with_a_limit_as_json
 $ outcomes --json --limit 1
 < @replaced
 >+ {"count":2,"event":{"ac":false,"address":"0x5123","cpu":1,"event":4,"kind":"access",
->+ "operation":"read","outcome":{"page":"0xa123"},"user":true},"format":1,"outcomes":[{"by":[4,4,4,
-> 4],"page":"0x9123"}],"place":5}
+>+ "operation":"read","outcome":{"page":"0xa123"},"user":true},"format":1,"outcomes":[{"by":[4,4,
+>+ 4,4],"cached_since":4,"page":"0x9123","walk":[{"is":"table","level":4,"moment":4,"pcid":"0x0",
+>+ "value":"0x2007","word":"0x1000","written_by":0},{"is":"table","level":3,"moment":4,
+>+ "pcid":"0x0","value":"0x3007","word":"0x2000","written_by":1},{"is":"table","level":2,
+>+ "moment":4,"pcid":"0x0","value":"0x4007","word":"0x3000","written_by":2},{"is":"leaf",
+>+ "level":1,"moment":4,"pcid":"0x0","value":"0x9007","word":"0x4028","written_by":3}]}],
+> "place":5}
 ? 0
 
 == outcomes_of_a_write_with_a_span_as_json

@@ -9,6 +9,7 @@ pub mod Upgrades
 pub mod Texts
 pub mod Found
 pub mod Unnamed
+pub mod Giving
 pub mod Outcomes
 pub mod OutcomeTexts
 pub mod AllowedTexts

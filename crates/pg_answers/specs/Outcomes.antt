@@ -14,6 +14,7 @@ use Rattle.pg_answers.specs.declared.answer.AssistOutcome.{AssistOutcome}
 use Rattle.pg_answers.specs.declared.answer.AccessOutcomes.{AccessOutcomes}
 use Rattle.pg_answers.specs.declared.answer.EventOutcomes.{EventOutcomes}
 use Rattle.pg_answers.specs.declared.answer.EventOutcomes.TheVariants.{Access, Assist, NoAccess}
+use Rattle.pg_answers.specs.Giving.{AreTold}
 
 -- ---- the event that is asked about
 
@@ -47,13 +48,14 @@ AreAllowed r n e (Some xs) = (is_access e ≡ true) × AreOutcomes r n e xs.item
 abbrev pub AreAllowedAt : Recorded → ℕ → Option (Vec Allowed Global) → Type 0
 AreAllowedAt r n allowed = (e : Event) × (slice_get r.events n ≡ Some e) × AreAllowed r n e allowed
 
--- every outcome that access n may have, of which so many are told at most
+-- every outcome that access n may have, of which so many are told at most, with what gives each
 pub record IsOutcomesOf (r : Recorded) (n most : ℕ) (x : AccessOutcomes) : Type 0 where
   pub number : x.number ≡ n
   pub event : slice_get r.events n ≡ Some x.event
   pub access : is_access x.event ≡ true
   pub run : HasRunBefore r n
   pub outcomes : AreOutcomes r n x.event x.found.items
+  pub told : AreTold r x.event most x.found.items x.told.items
   pub bound : x.most ≡ most
 
 -- whether assist n may come

@@ -1,12 +1,12 @@
 //! Answers as data, which each format renders.
 
-ghost use Rattle.std.specs.Prelude.{◌≡◌, take};
+ghost use Rattle.std.specs.Prelude.{◌≡◌};
 ghost use Rattle.pg_answers.specs.Answers.{answer_status, event_outcomes_status};
 
 use crate::statuses::{NO, REFUSED, YES, error_status, verdict_status};
 use pg_check::History;
 use pg_event::{Event, Moments, Selection};
-use pg_explain::{Denial, Explanation, Takers, Tally};
+use pg_explain::{Denial, Explanation, Takers, Tally, WalkEntry};
 use pg_outcomes::Allowed;
 use pg_report::{AuditError, Report};
 
@@ -37,6 +37,29 @@ pub struct Rejection {
     pub allowed: Option<Vec<Allowed>>,
 }
 
+/// The flags without which an access does not have an outcome (Intel SDM, vol. 3, 4.8).
+#[derive(Drop)]
+pub struct NeededFlags {
+    /// The words whose accessed flag must be set, from level 4 down.
+    pub accessed: Vec<u64>,
+    /// The word whose dirty flag must be set, if one must be.
+    pub dirty: Option<u64>,
+}
+
+/// An outcome that an access may have, and what gives it.
+#[derive(Drop)]
+pub struct OutcomeWalk {
+    /// The outcome, and the moments that witness it.
+    pub allowed: Allowed,
+    /// The entries that these moments name, from level 4 down.
+    pub walk: Vec<WalkEntry>,
+    /// The moment since which the leaf is cached, where the walk ends at one: no event up to the
+    /// access drops its translation.
+    pub since: Option<u32>,
+    /// The flags that must be set, of a record of version 2.
+    pub flags: Option<NeededFlags>,
+}
+
 /// Every outcome that an access may have after the events before it.
 #[derive(Drop)]
 pub struct AccessOutcomes {
@@ -48,19 +71,8 @@ pub struct AccessOutcomes {
     pub found: Vec<Allowed>,
     /// How many of them are told at most.
     pub most: u32,
-}
-
-impl AccessOutcomes {
-    /// The outcomes that are told: the first of them, so many at most.
-    pub fn told(&self) -> &[Allowed]
-        ensures { result.now ≡ take self.now.most self.now.found.items }
-    {
-        if (self.most as usize) < self.found.len() {
-            &self.found[..self.most as usize]
-        } else {
-            self.found.as_slice()
-        }
-    }
+    /// The first of them, so many at most, with what gives each.
+    pub told: Vec<OutcomeWalk>,
 }
 
 /// Whether an assist may come after the events before it.

@@ -15,6 +15,8 @@ mod explanations;
 mod files;
 mod first_checks;
 mod firsts;
+mod giving;
+mod giving_text;
 mod laws;
 mod naming;
 mod outcomes;
@@ -34,13 +36,14 @@ mod words;
 
 pub use allowed_text::{MOST_ALLOWED, allowed_note, first_allowed};
 pub use answer::{
-    AccessOutcomes, Answer, AssistOutcome, EventOutcomes, Rejection, Summary, answer_status,
-    event_outcomes_status,
+    AccessOutcomes, Answer, AssistOutcome, EventOutcomes, NeededFlags, OutcomeWalk, Rejection,
+    Summary, answer_status, event_outcomes_status,
 };
 pub use answering::answer_record;
 pub use files::{UNCREATED, tell_input, tell_uncreated, tell_unopened};
 pub use first_checks::check_first;
 pub use firsts::certify_first;
+pub use giving::told_outcomes;
 pub use laws::checks_are_audits;
 pub use naming::name_moments;
 pub use outcomes::asked_event;

@@ -6,10 +6,12 @@ ghost use Rattle.pg_answers.specs.Outcomes.{IsAskedEvent, IsLastAccess};
 
 use crate::answer::{AccessOutcomes, Answer, AssistOutcome, EventOutcomes};
 use crate::denials::denial_in;
+use crate::giving::told_outcomes;
 use pg_certify::denied_events_have_no_run;
 use pg_check::History;
 use pg_event::Event;
 use pg_outcomes::{Found, is_access, outcomes_of};
+use pg_search::Seen;
 use std::alloc::{AllocError, Global};
 
 /// The number of the last access, if there is one.
@@ -54,12 +56,16 @@ fn outcomes_answer(
     let event = history.events()[number as usize];
     match outcomes_of(alloc, history, number)? {
         Found::Rejected(denied) => Ok(Answer::Rejection(denial_in(alloc, history, denied)?)),
-        Found::Outcomes(found) => Ok(Answer::Outcomes(EventOutcomes::Access(AccessOutcomes {
-            number,
-            event,
-            found,
-            most,
-        }))),
+        Found::Outcomes(found) => {
+            let told = told_outcomes(alloc, &Seen::of(history), &event, &found, most)?;
+            Ok(Answer::Outcomes(EventOutcomes::Access(AccessOutcomes {
+                number,
+                event,
+                found,
+                most,
+                told,
+            })))
+        }
         Found::Assist(moments) => Ok(Answer::Outcomes(EventOutcomes::Assist(AssistOutcome {
             number,
             event,

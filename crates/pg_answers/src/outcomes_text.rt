@@ -3,11 +3,12 @@
 ghost use Rattle.std.specs.Prelude.{◌≡◌, ◌++◌, IfOk, OnOk, string_bytes};
 ghost use Rattle.pg_explain.specs.Line.{numbers_text};
 ghost use Rattle.pg_answers.specs.OutcomeTexts.{asked_line, result_text, allowed_line};
-ghost use Rattle.pg_answers.specs.OutcomeTexts.{allowed_lines, more_line, counted_line};
+ghost use Rattle.pg_answers.specs.OutcomeTexts.{told_texts, more_line, counted_line};
 ghost use Rattle.pg_answers.specs.OutcomeTexts.{outcomes_text, may_line, assist_text};
 ghost use Rattle.pg_answers.specs.OutcomeTexts.{no_access_text, event_outcomes_text};
 
-use crate::answer::{AccessOutcomes, AssistOutcome, EventOutcomes};
+use crate::answer::{AccessOutcomes, AssistOutcome, EventOutcomes, OutcomeWalk};
+use crate::giving_text::push_told;
 use pg_event::{Event, Moments, Outcome};
 use pg_explain::push_claim_line;
 use pg_outcomes::Allowed;
@@ -56,12 +57,12 @@ pub(crate) fn push_allowed(text: &mut String, allowed: &Allowed) -> Result<(), A
     text.push_str("\n")
 }
 
-fn push_each(text: &mut String, found: &[Allowed]) -> Result<(), AllocError>
+fn push_each(text: &mut String, told: &[OutcomeWalk]) -> Result<(), AllocError>
     ensures { OnOk result
-        (string_bytes text.new ≡ string_bytes text.old ++ allowed_lines found.now) }
+        (string_bytes text.new ≡ string_bytes text.old ++ told_texts told.now) }
 {
-    for allowed in found {
-        push_allowed(text, allowed)?;
+    for outcome in told {
+        push_told(text, outcome)?;
     }
     Ok(())
 }
@@ -84,7 +85,7 @@ fn push_outcomes(text: &mut String, outcomes: &AccessOutcomes) -> Result<(), All
 {
     let count = outcomes.found.len();
     push_asked(text, outcomes.number, &outcomes.event)?;
-    push_each(text, outcomes.told())?;
+    push_each(text, &outcomes.told)?;
     push_more(text, count, outcomes.most)?;
     write!(text, "outcomes: {count}\n")
 }

@@ -6,7 +6,7 @@ ghost use Rattle.pg_entry.specs.Kinds.{kind_of};
 ghost use Rattle.pg_event.specs.Values.{mem_at};
 ghost use Rattle.pg_chain.specs.Walked.{reading_of, entry_read, parent_of};
 ghost use Rattle.pg_explain.specs.Findings.{readings_by, last_of};
-ghost use Rattle.pg_explain.specs.Walk.{IsTold, reading_at};
+ghost use Rattle.pg_explain.specs.Walk.{IsTold, IsWalk, reading_at};
 
 use pg_chain::{EntryRead, kind_at};
 use pg_entry::{Entry, Kind, Level, combine, table_of};
@@ -111,6 +111,27 @@ pub(crate) fn tell(
         walk.push(told(seen, p, *step))?;
     }
     Ok(walk)
+}
+
+/// The entries that moments of processor `p` name for a linear address, from level 4 down, each with
+/// the event that wrote it. What stands below an entry that is no table is read as if it were one.
+///
+/// For each entry it takes a pass over the events below its moment (`Seen::writer` of `pg_search`).
+/// It fails only where memory is refused.
+pub fn walk_by(
+    alloc: Global,
+    seen: &Seen<'_>,
+    p: u16,
+    la: u64,
+    moments: &[u32],
+) -> Result<Vec<WalkEntry>, AllocError>
+    requires processor { p < length seen.now.head.processors }
+    requires some { 1 ≤ length moments.now }
+    ensures { IfOk result (λ walk.
+        IsWalk seen.now.head seen.now.events p la moments.now walk.items) }
+{
+    let steps = read_steps(alloc, seen, p, la, moments)?;
+    tell(alloc, seen, p, &steps)
 }
 
 /// What is read last.

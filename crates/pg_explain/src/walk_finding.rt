@@ -77,7 +77,8 @@ fn order_finding(number: u32, moments: &[u32]) -> Option<Finding>
     None
 }
 
-pub(crate) fn is_table(kind: Kind) -> bool
+/// Whether an entry refers to a table, in which a walk goes on.
+pub fn is_table(kind: Kind) -> bool
     ensures { result ≡ is_table kind }
 {
     match kind {

@@ -107,8 +107,8 @@ fn entries(alloc: Global, walk: &[WalkEntry]) -> Result<Vec<Value>, AllocError>
     Ok(values)
 }
 
-/// A walk: its entries down to the first that is no table.
-pub(crate) fn walk_json(alloc: Global, walk: &[WalkEntry]) -> Result<Value, AllocError>
+/// A walk: its entries down to the first that is no table. Fails only when out of memory.
+pub fn walk_json(alloc: Global, walk: &[WalkEntry]) -> Result<Value, AllocError>
     ensures { IfOk result (λ v. view v ≡ data_of (walk_json walk.now)) }
 {
     let told = told_entries(alloc, walk)?;

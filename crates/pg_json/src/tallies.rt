@@ -39,7 +39,8 @@ fn numbers_json(alloc: Global, told: &[u64]) -> Result<Value, AllocError>
     Ok(list_of(values))
 }
 
-fn addresses_json(alloc: Global, told: &[u64]) -> Result<Value, AllocError>
+/// Addresses as a list.
+pub fn addresses_json(alloc: Global, told: &[u64]) -> Result<Value, AllocError>
     ensures { IfOk result (λ v. view v ≡ data_of (hexes told.now)) }
 {
     let values = addresses(alloc, told)?;

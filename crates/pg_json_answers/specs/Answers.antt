@@ -15,18 +15,20 @@ use Rattle.pg_outcomes.specs.declared.allowed.Allowed.{Allowed}
 use Rattle.pg_answers.specs.declared.answer.Answer.TheVariants.{Rejection, Events, Outcomes}
 use Rattle.pg_answers.specs.declared.answer.AssistOutcome.{AssistOutcome}
 use Rattle.pg_answers.specs.declared.answer.AccessOutcomes.{AccessOutcomes}
+use Rattle.pg_answers.specs.declared.answer.NeededFlags.{NeededFlags}
+use Rattle.pg_answers.specs.declared.answer.OutcomeWalk.{OutcomeWalk}
 use Rattle.pg_answers.specs.declared.answer.EventOutcomes.{EventOutcomes}
 use Rattle.pg_answers.specs.declared.answer.EventOutcomes.TheVariants.{Access, Assist, NoAccess}
 use Rattle.pg_answers.specs.declared.answer.Rejection.{Rejection as Rejected}
 use Rattle.pg_answers.specs.declared.answer.Summary.{Summary as Summed}
-use Rattle.pg_json.specs.Tree.{Json, nothing, count, counts, hex, list, elements, object}
+use Rattle.pg_json.specs.Tree.{Json, nothing, count, counts, hex, hexes, list, elements, object}
 use Rattle.pg_json.specs.Tree.{json_line}
 use Rattle.pg_answers.specs.AllowedTexts.{most_allowed}
 use Rattle.pg_json.specs.Tree.{Fields, no_fields, field}
 use Rattle.pg_json.specs.Events.{event_json, claim_json}
 use Rattle.pg_json.specs.Reports.{with_counts, with_no, with_report}
 use Rattle.pg_json.specs.Causes.{explanation_json, denial_json}
-use Rattle.pg_json.specs.Entries.{number_json}
+use Rattle.pg_json.specs.Entries.{number_json, walk_json}
 use Rattle.pg_json.specs.Tallies.{tallies_json}
 
 -- ---- objects
@@ -93,9 +95,31 @@ shown_json f events = lines_where (is_shown f events) 0 events
 abbrev pub asked_fields : ℕ → Event → Fields
 asked_fields number e = field (codes "event") (claim_json number e) no_fields
 
+-- the words that need flags, of a record of version 2
+abbrev pub word_json : Option ℕ → Json
+word_json None = nothing
+word_json (Some word) = hex word
+
+abbrev pub flags_fields : Option NeededFlags → Fields
+flags_fields None = no_fields
+flags_fields (Some x) =
+    field (codes "dirty") (word_json x.dirty)
+    (field (codes "accessed") (hexes x.accessed.items) no_fields)
+
+-- what gives an outcome
+abbrev pub given_fields : OutcomeWalk → Fields
+given_fields x =
+    field (codes "cached_since") (number_json x.since)
+    (field (codes "walk") (walk_json x.walk.items) (flags_fields x.flags))
+
+-- an outcome, the moments by which it comes, and what gives it
+abbrev pub told_json : OutcomeWalk → Json
+told_json x = object (with_result x.allowed.outcome
+    (field (codes "by") (counts x.allowed.moments) (given_fields x)))
+
 abbrev pub outcomes_fields : AccessOutcomes → Fields
 outcomes_fields x =
-    field (codes "outcomes") (list (elements (map allowed_json (take x.most x.found.items))))
+    field (codes "outcomes") (list (elements (map told_json x.told.items)))
     (field (codes "count") (count (length x.found.items)) (asked_fields x.number x.event))
 
 -- moments, or null where there are none

@@ -1,18 +1,23 @@
 //! What may come of an event, as JSON.
 
-ghost use Rattle.std.specs.Prelude.{◌≡◌, List, codes, map, take, IfOk, OnOk, string_bytes};
+ghost use Rattle.std.specs.Prelude.{◌≡◌, List, codes, map, take, Some, IfOk, OnOk, string_bytes};
 ghost use Rattle.serde_json.specs.View.{view, members_view};
 ghost use Rattle.pg_json.specs.Tree.{Fields as ToldFields, data_of, members_of, counts, field};
 ghost use Rattle.pg_json.specs.Tree.{no_fields, object, json_line};
 ghost use Rattle.pg_json_answers.specs.Answers.{with_result, allowed_json, asked_fields};
-ghost use Rattle.pg_json_answers.specs.Answers.{with_allowed};
+ghost use Rattle.pg_json_answers.specs.Answers.{with_allowed, word_json, flags_fields};
+ghost use Rattle.pg_json_answers.specs.Answers.{given_fields, told_json};
 ghost use Rattle.pg_json_answers.specs.Answers.{outcomes_fields, by_json, assist_fields};
 ghost use Rattle.pg_json_answers.specs.Answers.{no_access_fields, event_outcomes_fields};
 
-use pg_answers::{AccessOutcomes, AssistOutcome, EventOutcomes, MOST_ALLOWED, first_allowed};
+use pg_answers::{
+    AccessOutcomes, AssistOutcome, EventOutcomes, MOST_ALLOWED, NeededFlags, OutcomeWalk,
+    first_allowed,
+};
 use pg_event::{Event, Moments, Outcome};
 use pg_json::{
-    Fields, claim_json, line_of, list_of, number_json, numbers_json, object_of, put_count, put_hex,
+    Fields, addresses_json, claim_json, hex_json, line_of, list_of, number_json, numbers_json,
+    object_of, put_count, put_hex, walk_json,
 };
 use pg_outcomes::Allowed;
 use serde_json::{Map, Value, put};
@@ -90,13 +95,80 @@ fn asked_fields(alloc: Global, number: u32, event: &Event) -> Result<Fields, All
     Ok(fields)
 }
 
+/// A word, or null where there is none.
+fn word_json(alloc: Global, word: Option<u64>) -> Result<Value, AllocError>
+    ensures { IfOk result (λ v. view v ≡ data_of (word_json word)) }
+{
+    match word {
+        Some(word) => hex_json(alloc, word),
+        None => Ok(Value::Null),
+    }
+}
+
+/// The words that need flags.
+fn needed_fields(alloc: Global, needed: &NeededFlags) -> Result<Fields, AllocError>
+    ensures { IfOk result (λ m. members_view m.entries
+        ≡ members_of (flags_fields (Some needed.now))) }
+{
+    let mut fields = Map::new(alloc);
+    let accessed = addresses_json(alloc, &needed.accessed)?;
+    put(&mut fields, alloc, "accessed", accessed)?;
+    let dirty = word_json(alloc, needed.dirty)?;
+    put(&mut fields, alloc, "dirty", dirty)?;
+    Ok(fields)
+}
+
+/// The words that need flags, of a record that is judged by them.
+fn flags_fields(alloc: Global, flags: &Option<NeededFlags>) -> Result<Fields, AllocError>
+    ensures { IfOk result (λ m. members_view m.entries ≡ members_of (flags_fields flags.now)) }
+{
+    match flags {
+        Some(needed) => needed_fields(alloc, needed),
+        None => Ok(Map::new(alloc)),
+    }
+}
+
+/// What gives an outcome.
+fn given_fields(alloc: Global, told: &OutcomeWalk) -> Result<Fields, AllocError>
+    ensures { IfOk result (λ m. members_view m.entries ≡ members_of (given_fields told.now)) }
+{
+    let mut fields = flags_fields(alloc, &told.flags)?;
+    let walk = walk_json(alloc, &told.walk)?;
+    put(&mut fields, alloc, "walk", walk)?;
+    put(&mut fields, alloc, "cached_since", number_json(told.since))?;
+    Ok(fields)
+}
+
+/// An outcome, and what gives it.
+fn told_json(alloc: Global, told: &OutcomeWalk) -> Result<Value, AllocError>
+    ensures { IfOk result (λ v. view v ≡ data_of (told_json told.now)) }
+{
+    let mut fields = given_fields(alloc, told)?;
+    let by = numbers_json(alloc, told.allowed.moments.as_slice())?;
+    put(&mut fields, alloc, "by", by)?;
+    put_result(&mut fields, alloc, told.allowed.outcome)?;
+    Ok(object_of(fields))
+}
+
+fn each_told(alloc: Global, told: &[OutcomeWalk]) -> Result<Vec<Value>, AllocError>
+    ensures { IfOk result (λ vs. map view vs.items
+        ≡ map (λ x. data_of (told_json x)) told.now) }
+{
+    let mut values = Vec::new(alloc);
+    for outcome in told {
+        let value = told_json(alloc, outcome)?;
+        values.push(value)?;
+    }
+    Ok(values)
+}
+
 fn outcomes_fields(alloc: Global, outcomes: &AccessOutcomes) -> Result<Fields, AllocError>
     ensures { IfOk result (λ m. members_view m.entries
         ≡ members_of (outcomes_fields outcomes.now)) }
 {
     let mut fields = asked_fields(alloc, outcomes.number, &outcomes.event)?;
     put_count(&mut fields, alloc, "count", outcomes.found.len() as u64)?;
-    let told = each(alloc, outcomes.told())?;
+    let told = each_told(alloc, &outcomes.told)?;
     put(&mut fields, alloc, "outcomes", list_of(told))?;
     Ok(fields)
 }

@@ -9,6 +9,7 @@ use Rattle.pg_outcomes.specs.Allowing.{AreOutcomes}
 use Rattle.pg_outcomes.specs.Asked.{MayCome}
 use Rattle.pg_answers.specs.declared.answer.EventOutcomes.{EventOutcomes}
 use Rattle.pg_answers.specs.declared.answer.EventOutcomes.TheVariants.{Access, Assist, NoAccess}
+use Rattle.pg_answers.specs.Giving.{AreTold}
 use Rattle.pg_answers.specs.Outcomes.{IsAskedEvent}
 use Rattle.pg_answers.specs.OutcomeTexts.{event_outcomes_text}
 use Rattle.pg_spanned.specs.Orders.{Spanned, ordered}
@@ -24,11 +25,13 @@ IsPlaceOf order number None = (k : ℕ) → slice_get order k ≢ Some number
 IsPlaceOf order number (Some place) = slice_get order place ≡ Some number
 
 -- of the event at a place, which is told with this number: of an access every outcome that it may
--- have, of an assist whether it may come, of another event nothing
+-- have, and what gives those that are told, of an assist whether it may come, of another event
+-- nothing
 abbrev pub IsAtPlace : Recorded → ℕ → ℕ → ℕ → EventOutcomes → Type 0
 IsAtPlace r number place most (Access x) =
     (x.number ≡ number) × (slice_get r.events place ≡ Some x.event) × (is_access x.event ≡ true)
-    × AreOutcomes r place x.event x.found.items × (x.most ≡ most)
+    × AreOutcomes r place x.event x.found.items
+    × AreTold r x.event most x.found.items x.told.items × (x.most ≡ most)
 IsAtPlace r number place most (Assist x) =
     (x.number ≡ number) × (slice_get r.events place ≡ Some x.event)
     × (is_access x.event ≡ false) × (names_moments x.event ≡ true)

@@ -6,7 +6,9 @@ ghost use Rattle.pg_spanned.specs.Spanned.{IsSpanned};
 ghost use Rattle.pg_ordering.specs.Outcomes.{IsPlaceOf, IsAtPlace, IsOfEvent, AreInOrder};
 ghost use Rattle.pg_ordering.specs.Outcomes.{place_line, ordered_outcomes_text};
 
-use pg_answers::{AccessOutcomes, AssistOutcome, EventOutcomes, asked_event, event_outcomes_text};
+use pg_answers::{
+    AccessOutcomes, AssistOutcome, EventOutcomes, asked_event, event_outcomes_text, told_outcomes,
+};
 use pg_check::History;
 use pg_event::Event;
 use pg_order::history_in_order;
@@ -52,12 +54,17 @@ fn outcomes_at_place(
     let event = history.events()[place as usize];
     let seen = Seen::of(history);
     match event {
-        Event::Access { .. } => Ok(EventOutcomes::Access(AccessOutcomes {
-            number,
-            event,
-            found: outcomes_at(alloc, &seen, place, &event)?,
-            most,
-        })),
+        Event::Access { .. } => {
+            let found = outcomes_at(alloc, &seen, place, &event)?;
+            let told = told_outcomes(alloc, &seen, &event, &found, most)?;
+            Ok(EventOutcomes::Access(AccessOutcomes {
+                number,
+                event,
+                found,
+                most,
+                told,
+            }))
+        }
         Event::Assist { .. } => Ok(EventOutcomes::Assist(AssistOutcome {
             number,
             event,

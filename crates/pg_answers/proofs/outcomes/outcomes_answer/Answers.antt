@@ -6,9 +6,11 @@ use Rattle.pg_event.specs.Heads.{Head}
 use Rattle.pg_event.specs.Spelling.{Recorded}
 use Rattle.pg_search.specs.Law.{names_moments}
 use Rattle.pg_certify.specs.Certified.{IsDenied}
+use Rattle.pg_outcomes.specs.declared.allowed.Allowed.{Allowed}
 use Rattle.pg_outcomes.specs.Placed.{is_access}
 use Rattle.pg_outcomes.specs.Allowing.{AreOutcomes}
 use Rattle.pg_outcomes.specs.Asked.{MayCome}
+use Rattle.pg_answers.specs.Giving.{AreTold}
 use Rattle.pg_answers.proofs.outcomes.outcomes_answer.Goals as goal
 
 one_event : (e x : Event) → Some e ≡ Some x → e ≡ x
@@ -27,8 +29,8 @@ returns-in_ok-denial_in-in-Rejected c =
     let told = c.in_ok-denial_in-in-Rejected.ensures in
     ((d, record { denied = denied; none = runs.0; before = runs.1 }, told), subst (λ k. k < c.args.number) (sym told.number) below)
 
-pub returns-in-Outcomes : goal.returns-in-Outcomes
-returns-in-Outcomes c =
+pub returns-in_ok-told-in-Outcomes : goal.returns-in_ok-told-in-Outcomes
+returns-in_ok-told-in-Outcomes c =
     let r : Recorded = c.args.history.now in
     let n : ℕ = c.args.number in
     let e : Event = c.index-events-number.result in
@@ -41,6 +43,8 @@ returns-in-Outcomes c =
       access = subst (λ x. is_access x ≡ true) same h.2.0;
       run = h.2.1;
       outcomes = subst (λ x. AreOutcomes r n x c.in-Outcomes.found.items) same h.2.2;
+      told = subst (λ (q : Recorded). AreTold q e c.args.most c.in-Outcomes.found.items c.in_ok-told-in-Outcomes.told.items) c.of.ensures
+          (subst (λ (xs : List Allowed). AreTold c.of.result e c.args.most xs c.in_ok-told-in-Outcomes.told.items) c.deref.ensures.value c.in_ok-told-in-Outcomes.ensures);
       bound = refl;
     }
 
