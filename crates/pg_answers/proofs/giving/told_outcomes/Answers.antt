@@ -1,8 +1,7 @@
-use Rattle.std.proofs.Common.{◌≡◌, ℕ, List, Result, Ok, Err, ap, subst, ◌∙◌, map, take}
+use Rattle.std.proofs.Common.{Result, Ok, Err, subst, ◌∙◌}
 use Rattle.std.specs.Prelude.{IfOk}
 use Rattle.std.specs.List.{AllByRecursion}
 use Rattle.pg_entry.specs.declared.AccessKind.{AccessKind}
-use Rattle.pg_answers.specs.declared.answer.OutcomeWalk.{OutcomeWalk}
 use Rattle.pg_answers.specs.Giving.{IsGivenBy}
 use Rattle.pg_answers.proofs.giving.told_outcomes.Goals as goal
 

@@ -11,6 +11,6 @@ three_written text a b c one two three first second third =
 pub returns : goal.returns
 returns c = on_ok_weaker c.push_dirty.result
     (three_written (string_bytes c.args.text.now) (codes "  needs: accessed in") (words_text c.args.accessed.now) (dirty_text c.args.dirty)
-        (string_bytes c.push_str.new.self) (string_bytes c.push_words.new.text) (string_bytes c.push_dirty.new.text)
-        c.in_ok-push_str.ensures.bytes c.in_ok-push_words.ensures)
+    (string_bytes c.push_str.new.self) (string_bytes c.push_words.new.text) (string_bytes c.push_dirty.new.text)
+    c.in_ok-push_str.ensures.bytes c.in_ok-push_words.ensures)
     c.push_dirty.ensures
