@@ -5,6 +5,7 @@
 
 mod in_order;
 mod laws;
+mod search;
 mod trying;
 mod verdict;
 

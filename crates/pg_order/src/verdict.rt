@@ -8,8 +8,8 @@ ghost use Rattle.pg_spanned.specs.Orders.{ordered};
 ghost use Rattle.pg_order.specs.Verdicts.{IsVerdict, NeedsSearch, TellsNotGiven};
 
 use crate::in_order::{InOrder, certify_in_order};
+use crate::search::{Sought, find_order};
 use crate::trying::{Tried, try_orders};
-use pg_arrange::{Sought, find_order};
 use pg_certify::denied_events_have_no_run;
 use pg_relaxed::{Edge, Refuted, first_not_given, refute, refute_near};
 use pg_spanned::{SpannedRun, ends_are_an_order, has_one_order, no_other_order};

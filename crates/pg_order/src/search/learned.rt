@@ -1,8 +1,8 @@
 //! What was learned: that events come before others.
 
-use crate::edges::Edge;
-use crate::made::Made;
-use crate::numbers::NEVER;
+use crate::search::edges::Edge;
+use crate::search::made::Made;
+use crate::search::numbers::NEVER;
 use std::alloc::{AllocError, Global};
 use std::collections::HashMap;
 

@@ -1,15 +1,15 @@
 //! All walks that may witness an event: in the order so far, by its moments, or in any order, by
 //! the slots of its processor.
 
-use crate::asked::Asked;
-use crate::drops::{Range, StructureDrops};
-use crate::facts::Facts;
-use crate::looked::Looked;
-use crate::made::Made;
-use crate::numbers::NEVER;
-use crate::ranges::Area;
-use crate::stays::{Stay, last_in, next_in};
-use crate::versions::{Version, made_versions, possible_versions};
+use crate::search::asked::Asked;
+use crate::search::drops::{Range, StructureDrops};
+use crate::search::facts::Facts;
+use crate::search::looked::Looked;
+use crate::search::made::Made;
+use crate::search::numbers::NEVER;
+use crate::search::ranges::Area;
+use crate::search::stays::{Stay, last_in, next_in};
+use crate::search::versions::{Version, made_versions, possible_versions};
 use pg_entry::{Entry, Kind, Level, Rights, combine};
 use pg_event::{level_shift, may_cache};
 use std::alloc::{AllocError, Global};

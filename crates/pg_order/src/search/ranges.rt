@@ -3,9 +3,9 @@
 //! seldom asked for: so they are listed only once the events were looked at one by one so often
 //! that it would take longer to go on with that.
 
-use crate::drops::{Range, drops_range, may_drop};
-use crate::facts::Facts;
-use crate::numbers::{NEVER, after_last, first_from};
+use crate::search::drops::{Range, drops_range, may_drop};
+use crate::search::facts::Facts;
+use crate::search::numbers::{NEVER, after_last, first_from};
 use pg_entry::Level;
 use pg_event::{Control, Event};
 use std::alloc::{AllocError, Global};

@@ -1,13 +1,13 @@
 //! What follows from the events around one that waits: where all walks that may witness an event
 //! need one event to come before another, it does.
 
-use crate::asked::{Asked, asked_of};
-use crate::edges::Edge;
-use crate::facts::Facts;
-use crate::numbers::{NEVER, at, number};
+use crate::search::asked::{Asked, asked_of};
+use crate::search::edges::Edge;
+use crate::search::facts::Facts;
+use crate::search::numbers::{NEVER, at, number};
 use crate::search::Maker;
-use crate::sure::Sure;
-use crate::sweep::{Hit, Limits, Reading, View};
+use crate::search::sure::Sure;
+use crate::search::sweep::{Hit, Limits, Reading, View};
 use std::alloc::{AllocError, Global};
 use std::collections::HashMap;
 

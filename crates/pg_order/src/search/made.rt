@@ -1,7 +1,7 @@
 //! The order that is being made, so far. A moment of it is the number of events before it.
 
-use crate::facts::{Facts, word_of};
-use crate::numbers::{NEAR_END, NEVER, at, number};
+use crate::search::facts::{Facts, word_of};
+use crate::search::numbers::{NEAR_END, NEVER, at, number};
 use pg_event::{Event, processor_of};
 use std::alloc::{AllocError, Global};
 

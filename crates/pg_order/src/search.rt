@@ -1,23 +1,43 @@
 //! A search for an order in which each event is witnessed. Nothing is claimed of it: the order is
 //! checked once it is whole, and the events are certified in it.
 
-use crate::asked::{Asked, asked_under};
-use crate::facts::{Facts, word_of};
-use crate::found::Found;
-use crate::learned::Learned;
-use crate::looked::Looked;
-use crate::made::Made;
-use crate::numbers::{Chance, NEVER};
-use crate::repair::Tries;
-use crate::sweep::Scratch;
-use crate::witness::Witness;
+mod asked;
+mod deduced;
+mod drops;
+mod edges;
+mod facts;
+mod found;
+mod keys;
+mod learned;
+mod lists;
+mod looked;
+mod made;
+mod numbers;
+mod ranges;
+mod repair;
+mod stays;
+mod sure;
+mod sweep;
+mod versions;
+mod witness;
+
+use crate::search::asked::{Asked, asked_under};
+use crate::search::facts::{Facts, word_of};
+use crate::search::found::Found;
+use crate::search::learned::Learned;
+use crate::search::looked::Looked;
+use crate::search::made::Made;
+use crate::search::numbers::{Chance, NEVER};
+use crate::search::repair::Tries;
+use crate::search::sweep::Scratch;
+use crate::search::witness::Witness;
 use pg_event::{Control, Event, Outcome};
 use pg_spanned::SpannedRun;
 use std::alloc::{AllocError, Global};
 
 /// What a search comes to.
 #[derive(Drop)]
-pub enum Sought {
+pub(crate) enum Sought {
     /// An order, which is still to be checked.
     Order(Vec<u32>),
     /// No event was found that could come next. The events that waited; if no walk in any order was
@@ -440,7 +460,7 @@ impl<'a> Maker<'a> {
 /// up once an event was the first that waits so often, or so many events were taken back.
 ///
 /// It fails only where memory is refused.
-pub fn find_order(alloc: Global, run: &SpannedRun) -> Result<Sought, AllocError> {
+pub(crate) fn find_order(alloc: Global, run: &SpannedRun) -> Result<Sought, AllocError> {
     let mut maker = Maker::new(alloc, run)?;
     for _ in 0..u64::MAX {
         if maker.is_whole() {

@@ -1,11 +1,11 @@
 //! What is the same in all orders of a run, by the slots of its processors: slot k of a processor
 //! lies between its events k - 1 and k.
 
-use crate::drops::Drops;
-use crate::lists::Lists;
-use crate::numbers::{NEVER, at, count_below, number};
-use crate::stays::Stays;
-use crate::sure::Sure;
+use crate::search::drops::Drops;
+use crate::search::lists::Lists;
+use crate::search::numbers::{NEVER, at, count_below, number};
+use crate::search::stays::Stays;
+use crate::search::sure::Sure;
 use pg_entry::{Cfg, Entry, Kind, Level, classify};
 use pg_event::{Control, Event, Version, controlled, loaded, processor_of};
 use pg_spanned::{SpannedRun, ended_before, event_of};
@@ -102,7 +102,7 @@ impl<'a> Facts<'a> {
     fn push(&mut self, event: &Event, number: u32, ended: u32) -> Result<(), AllocError> {
         if number.checked_rem(self.step) == Some(0) {
             for own in self.own.iter() {
-                self.own_before.push(crate::numbers::number(own.len()))?;
+                self.own_before.push(crate::search::numbers::number(own.len()))?;
             }
         }
         let p = processor_of(event);

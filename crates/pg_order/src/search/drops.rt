@@ -3,8 +3,8 @@
 
 ghost use Rattle.std.specs.Prelude.{◌≤◌};
 
-use crate::lists::Lists;
-use crate::numbers::{NEVER, after_last, first_from};
+use crate::search::lists::Lists;
+use crate::search::numbers::{NEVER, after_last, first_from};
 use pg_entry::Level;
 use pg_event::{Control, Event, Outcome, bits_from, changes_pge, level_shift};
 use std::alloc::{AllocError, Global};

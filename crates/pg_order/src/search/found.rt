@@ -1,7 +1,7 @@
 //! Translations that were found to stand in the order so far.
 
-use crate::keys::Keys;
-use crate::numbers::{NEVER, number};
+use crate::search::keys::Keys;
+use crate::search::numbers::{NEVER, number};
 use pg_entry::{Level, Rights};
 use pg_event::bits_from;
 use std::alloc::{AllocError, Global};

@@ -1,11 +1,11 @@
 //! Whether an event is witnessed at the end of the order so far.
 
-use crate::asked::Asked;
-use crate::facts::Facts;
-use crate::found::{Found, Known};
-use crate::looked::Looked;
-use crate::made::Made;
-use crate::sweep::{Hit, Limits, Scratch, Sweep, View};
+use crate::search::asked::Asked;
+use crate::search::facts::Facts;
+use crate::search::found::{Found, Known};
+use crate::search::looked::Looked;
+use crate::search::made::Made;
+use crate::search::sweep::{Hit, Limits, Scratch, Sweep, View};
 use pg_entry::{Entry, Kind, Level, Rights, combine};
 use pg_event::{level_shift, may_cache};
 use std::alloc::{AllocError, Global};

@@ -1,7 +1,7 @@
 //! Rising lists of numbers, by keys.
 
-use crate::keys::Keys;
-use crate::numbers::at;
+use crate::search::keys::Keys;
+use crate::search::numbers::at;
 use std::alloc::{AllocError, Global};
 
 /// A list of numbers for each key. The numbers that are added wait in one list for all keys, until
@@ -103,7 +103,7 @@ impl Lists {
         self.items = vec![in self.alloc; 0u32; self.added.len()]?;
         let mut next: u32 = 0;
         let mut number = 0;
-        for i in 0..crate::numbers::number(self.added.len()) {
+        for i in 0..crate::search::numbers::number(self.added.len()) {
             let added = at(&self.added, i);
             if added % 2 == 1 {
                 number = at(&self.waiting, next);

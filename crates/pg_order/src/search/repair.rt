@@ -1,14 +1,14 @@
 //! What is done where no event can come next: another order of those before, so that one of those
 //! that wait is witnessed.
 
-use crate::asked::{Asked, asked_of};
-use crate::edges::{Edge, Taste, edges_of};
-use crate::learned::Learned;
-use crate::looked::Looked;
-use crate::numbers::NEVER;
+use crate::search::asked::{Asked, asked_of};
+use crate::search::edges::{Edge, Taste, edges_of};
+use crate::search::learned::Learned;
+use crate::search::looked::Looked;
+use crate::search::numbers::NEVER;
 use crate::search::{ALL_WINDOWS, Maker};
-use crate::sure::Sure;
-use crate::sweep::{Hit, Limits, Sweep, View};
+use crate::search::sure::Sure;
+use crate::search::sweep::{Hit, Limits, Sweep, View};
 use std::alloc::{AllocError, Global};
 use std::collections::HashMap;
 
@@ -376,7 +376,7 @@ impl<'a> Maker<'a> {
             Some(plan) => plan.moment == self.made.now(),
             None => true,
         };
-        let count = crate::numbers::number(held.len());
+        let count = crate::search::numbers::number(held.len());
         let choice = self.chance.below(count);
         if let (true, Some(event)) = (is_idle, held.get(choice as usize)) {
             let any = self.chance.below(4);

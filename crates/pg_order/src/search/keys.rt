@@ -1,6 +1,6 @@
 //! Numbers of keys.
 
-use crate::numbers::{NEVER, at, number};
+use crate::search::numbers::{NEVER, at, number};
 use std::alloc::{AllocError, Global};
 
 /// A key, and two numbers that are kept with it.

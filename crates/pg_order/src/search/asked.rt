@@ -1,6 +1,6 @@
 //! What an event asks of its processor.
 
-use crate::facts::Facts;
+use crate::search::facts::Facts;
 use pg_entry::{AccessKind, Cause, Entry, Kind, Rights, allowed, dirty, error_code, page_offset};
 use pg_event::{
     Control, Event, Outcome, Version, Want, access_kind, is_done_write, may_cache, uses_last,

@@ -1,8 +1,8 @@
 //! The values that a word may have.
 
-use crate::facts::Facts;
-use crate::made::Made;
-use crate::numbers::{NEAR_END, NEVER, at, count_below, number};
+use crate::search::facts::Facts;
+use crate::search::made::Made;
+use crate::search::numbers::{NEAR_END, NEVER, at, count_below, number};
 use pg_event::Version as Format;
 use std::alloc::AllocError;
 

@@ -1,8 +1,8 @@
 //! What must come before what for a walk to witness an event, beyond what the spans say.
 
-use crate::asked::Asked;
-use crate::numbers::{Chance, NEVER, at, number};
-use crate::sweep::{Hit, Reading, View};
+use crate::search::asked::Asked;
+use crate::search::numbers::{Chance, NEVER, at, number};
+use crate::search::sweep::{Hit, Reading, View};
 use std::alloc::{AllocError, Global};
 
 /// That one event comes before another.

@@ -1,6 +1,6 @@
 //! Which PCID and root a processor has in its slots, which are the same in all orders.
 
-use crate::numbers::{NEVER, number};
+use crate::search::numbers::{NEVER, number};
 use pg_event::Control;
 use std::alloc::{AllocError, Global};
 use std::collections::HashMap;
