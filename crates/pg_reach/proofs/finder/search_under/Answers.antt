@@ -13,15 +13,9 @@ use Rattle.pg_reach.specs.Reaching.{IsReach, AreRoots, AreBelow}
 use Rattle.pg_reach.specs.Bounds.{bound_of}
 use Rattle.pg_reach.specs.Ends.{AreRefused}
 use Rattle.pg_reach.proofs.Refusals.{IsBetter, all_better}
+use Rattle.pg_reach.proofs.Levels.{by_level}
 use Rattle.pg_reach.proofs.Whole.{AreWhole, all_under}
 use Rattle.pg_reach.proofs.finder.search_under.Goals as goal
-
--- the reaches of each level
-abbrev by_level : List Reach → List Reach → List Reach → List Reach → Level → List Reach
-by_level fours threes twos ones Four = fours
-by_level fours threes twos ones Three = threes
-by_level fours threes twos ones Two = twos
-by_level fours threes twos ones One = ones
 
 pub returns-clause-all : goal.returns-clause-all
 returns-clause-all c =

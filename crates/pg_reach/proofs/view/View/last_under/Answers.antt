@@ -14,15 +14,9 @@ use Rattle.pg_reach.specs.Reaching.{IsReach, AreRoots, AreBelow}
 use Rattle.pg_reach.specs.Bounds.{AreBounds, bound_of}
 use Rattle.pg_reach.specs.WitnessedUpTo.{ArePassed}
 use Rattle.pg_reach.proofs.Passed.{ArePassedAll, up_to_all}
+use Rattle.pg_reach.proofs.Levels.{by_level}
 use Rattle.pg_reach.proofs.Pieces.{IsLater, all_later}
 use Rattle.pg_reach.proofs.view.View.last_under.Goals as goal
-
--- the reaches of each level
-abbrev by_level : List Reach → List Reach → List Reach → List Reach → Level → List Reach
-by_level fours threes twos ones Four = fours
-by_level fours threes twos ones Three = threes
-by_level fours threes twos ones Two = twos
-by_level fours threes twos ones One = ones
 
 -- no bound at all
 abbrev begin : Bounds
