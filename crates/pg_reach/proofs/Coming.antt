@@ -1,6 +1,6 @@
 -- Moments that witness an event lead to a reach.
 use Rattle.std.proofs.Common.{◌≡◌, ℕ, ◌<◌, ◌≤◌, ◌^◌, ◌==◌, Bool, true, false, not, nat_le, List, [], ◌∷◌, ◌++◌, ◌∙◌, refl, sym, subst, inl, inr, arith}
-use Rattle.std.specs.List.{list_all}
+use Rattle.std.specs.List.{All, list_all}
 use Rattle.std.proofs.lemmas.Bool.{cases_lt, and_parts, eqb-true, leb-true}
 use Rattle.std.proofs.lemmas.List.{append_assoc}
 use Rattle.pg_entry.specs.declared.Level.{Level}
@@ -22,15 +22,18 @@ use Rattle.pg_reach.specs.declared.walker.Walker.{Walker}
 use Rattle.pg_reach.specs.declared.reach.Reach.{Reach}
 use Rattle.pg_reach.specs.declared.since.Bounds.{Bounds}
 use Rattle.pg_reach.specs.Stays.{IsUnder}
-use Rattle.pg_reach.specs.Reaching.{structure_lasts, AreAt, LeadsOn, next_at, AreBelow, AreRoots}
+use Rattle.pg_reach.specs.Reaching.{IsReach, structure_lasts, AreAt, LeadsOn, next_at, AreBelow, AreRoots}
 use Rattle.pg_reach.specs.Asking.{last_moment}
 use Rattle.pg_reach.specs.Bounds.{bound_of, AreBounds}
+use Rattle.pg_reach.specs.Descents.{AreLevels}
 use Rattle.pg_reach.proofs.Lasts.{lasts_within}
 
--- the reaches of each level
-pub record AreLevels (r : Recorded) (v : Walker) (b : Bounds) (lists : Level → List Reach) : Type 0 where
-  pub roots : AreRoots r v b.four (lists Four)
-  pub below : (level : Level) → IsTableLevel level → AreBelow r v level (bound_of b level) (lists level) (lists (below level))
+-- each level has reaches of it
+pub each_level : (r : Recorded) (v : Walker) (b : Bounds) (lists : Level → List Reach) → AreLevels r v b lists → (level : Level) → All (IsReach r v level) (lists level)
+each_level r v b lists h Four = h.roots.each
+each_level r v b lists h Three = (h.below Four tt).each
+each_level r v b lists h Two = (h.below Three tt).each
+each_level r v b lists h One = (h.below Two tt).each
 
 -- no reading that leads to a last one which comes late enough comes before its bound
 

@@ -2,7 +2,7 @@
 use Rattle.std.proofs.Common.{◌≡◌, ℕ, ◌+◌, ◌-◌, ◌≤◌, ◌^◌, min, max, false, List, [], ◌∷◌, ◌++◌, inl, inr, refl, ap, sym, ◌∙◌, subst, arith}
 use Rattle.std.proofs.lemmas.List.Elements.{All-contains, Contains-push_cases}
 use Rattle.pg_entry.specs.declared.Level.{Level}
-use Rattle.pg_entry.specs.declared.Level.TheVariants.{Four, Three, Two, One}
+use Rattle.pg_entry.specs.declared.Level.TheVariants.{Four}
 use Rattle.pg_event.specs.declared.control.Control.{Control}
 use Rattle.pg_event.specs.Spelling.{Recorded}
 use Rattle.pg_event.specs.Values.{control_at}
@@ -15,13 +15,6 @@ use Rattle.pg_reach.specs.Reaching.{IsReach, Has, AreAt, next_at, AreNext, IsFil
 use Rattle.pg_search.specs.Freshness.{is_as_fresh}
 use Rattle.pg_search.proofs.Freshness.{fresh_refl}
 use Rattle.pg_event.specs.declared.walk.Parent.{Parent}
-
--- the reaches of each level
-abbrev pub by_level : List Reach → List Reach → List Reach → List Reach → Level → List Reach
-by_level fours threes twos ones Four = fours
-by_level fours threes twos ones Three = threes
-by_level fours threes twos ones Two = twos
-by_level fours threes twos ones One = ones
 
 -- what stands where there is no reach
 abbrev pub no_reach : Reach

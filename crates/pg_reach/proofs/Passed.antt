@@ -19,7 +19,7 @@ use Rattle.pg_reach.specs.Asking.{Asks, pcid_of}
 use Rattle.pg_reach.specs.Bounds.{AreBounds}
 use Rattle.pg_reach.specs.Ends.{AreRefused}
 use Rattle.pg_reach.specs.WitnessedUpTo.{IsUpTo, IsPassed, ArePassed, AreUpTo}
-use Rattle.pg_reach.proofs.Coming.{AreLevels}
+use Rattle.pg_reach.specs.Descents.{AreLevels}
 use Rattle.pg_reach.proofs.Whole.{AreWhole, all_under}
 
 -- the same walker before an event with another number

@@ -51,7 +51,8 @@ use Rattle.pg_reach.specs.Bounds.{AreBounds}
 use Rattle.pg_reach.specs.Ends.{IsRefused, AreRefused}
 use Rattle.pg_reach.specs.Given.{GivesBy}
 use Rattle.pg_reach.proofs.Gives.{end_gives}
-use Rattle.pg_reach.proofs.Coming.{AreLevels, EndsIn, begins_in, ends_in}
+use Rattle.pg_reach.specs.Descents.{AreLevels}
+use Rattle.pg_reach.proofs.Coming.{EndsIn, begins_in, ends_in}
 use Rattle.pg_reach.proofs.Later.{leaf_later}
 
 -- a way is what one comes by

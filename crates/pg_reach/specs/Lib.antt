@@ -9,3 +9,4 @@ pub mod Ends
 pub mod ByOutcome
 pub mod WitnessedUpTo
 pub mod Bounds
+pub mod Descents

@@ -203,15 +203,12 @@ fn every_under(
     ensures all { OnOk result ((o : Outcomes) → AreUnder view.now.run view.now.walker bounds.one
         (with_outcome o view.now.event) (found_at found.new o)) }
 {
-    let fours = view.roots(alloc)?;
-    let threes = view.tables_below(alloc, Level::Four, bounds.four, fours.as_slice())?;
-    let twos = view.tables_below(alloc, Level::Three, bounds.three, threes.as_slice())?;
-    let ones = view.tables_below(alloc, Level::Two, bounds.two, twos.as_slice())?;
+    let tables = view.descend(alloc, bounds)?;
     let since = bounds.one;
-    view.note_reaches(memo, Level::One, since, ones.as_slice(), found)?;
-    view.note_reaches(memo, Level::Two, since, twos.as_slice(), found)?;
-    view.note_reaches(memo, Level::Three, since, threes.as_slice(), found)?;
-    view.note_reaches(memo, Level::Four, since, fours.as_slice(), found)
+    view.note_reaches(memo, Level::One, since, tables.ones.as_slice(), found)?;
+    view.note_reaches(memo, Level::Two, since, tables.twos.as_slice(), found)?;
+    view.note_reaches(memo, Level::Three, since, tables.threes.as_slice(), found)?;
+    view.note_reaches(memo, Level::Four, since, tables.fours.as_slice(), found)
 }
 
 /// Keeps, for each outcome, the freshest moments that witness the access with it, under the PCID

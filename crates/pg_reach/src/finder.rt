@@ -55,15 +55,12 @@ fn search_under(
         IsFresher view.now.walker.freshest r ws) }
     ensures all { IfOk result (AreUnder view.now.run view.now.walker bounds.one view.now.event) }
 {
-    let fours = view.roots(alloc)?;
-    let threes = view.tables_below(alloc, Level::Four, bounds.four, fours.as_slice())?;
-    let twos = view.tables_below(alloc, Level::Three, bounds.three, threes.as_slice())?;
-    let ones = view.tables_below(alloc, Level::Two, bounds.two, twos.as_slice())?;
+    let tables = view.descend(alloc, bounds)?;
     let since = bounds.one;
-    let one = view.end_among(memo, Level::One, since, ones.as_slice(), found);
-    let two = view.end_among(memo, Level::Two, since, twos.as_slice(), one);
-    let three = view.end_among(memo, Level::Three, since, threes.as_slice(), two);
-    let four = view.end_among(memo, Level::Four, since, fours.as_slice(), three);
+    let one = view.end_among(memo, Level::One, since, tables.ones.as_slice(), found);
+    let two = view.end_among(memo, Level::Two, since, tables.twos.as_slice(), one);
+    let three = view.end_among(memo, Level::Three, since, tables.threes.as_slice(), two);
+    let four = view.end_among(memo, Level::Four, since, tables.fours.as_slice(), three);
     Ok(four)
 }
 

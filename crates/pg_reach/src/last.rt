@@ -22,6 +22,7 @@ ghost use Rattle.pg_reach.specs.WitnessedUpTo.{IsFoundAfter};
 use crate::finder::{WALKS, freshest_moments_at, walk_of};
 use crate::parts::{part_of, parts_of};
 use crate::reach::{Reach, up_to};
+use crate::since::Bounds;
 use crate::stays::{latest_of, pcids_of, spans_of};
 use crate::view::{Piece, View};
 use crate::walker::{Walker, want_by};
@@ -250,14 +251,17 @@ impl View<'_> {
         ensures later { IfOk result (λ r. (j : ℕ) → IsUpTo found j → IsUpTo r j) }
         ensures all { IfOk result (AreUpTo self.now.run self.now.walker self.now.event) }
     {
-        let fours = self.roots(alloc)?;
-        let threes = self.tables_below(alloc, Level::Four, 0, fours.as_slice())?;
-        let twos = self.tables_below(alloc, Level::Three, 0, threes.as_slice())?;
-        let ones = self.tables_below(alloc, Level::Two, 0, twos.as_slice())?;
-        let one = self.last_among(memo, Level::One, ones.as_slice(), found);
-        let two = self.last_among(memo, Level::Two, twos.as_slice(), one);
-        let three = self.last_among(memo, Level::Three, threes.as_slice(), two);
-        let four = self.last_among(memo, Level::Four, fours.as_slice(), three);
+        let begin = Bounds {
+            one: 0,
+            two: 0,
+            three: 0,
+            four: 0,
+        };
+        let tables = self.descend(alloc, begin)?;
+        let one = self.last_among(memo, Level::One, tables.ones.as_slice(), found);
+        let two = self.last_among(memo, Level::Two, tables.twos.as_slice(), one);
+        let three = self.last_among(memo, Level::Three, tables.threes.as_slice(), two);
+        let four = self.last_among(memo, Level::Four, tables.fours.as_slice(), three);
         Ok(four)
     }
 }

@@ -3,6 +3,7 @@
 #![tactic(auto)]
 
 mod by_outcome;
+mod descent;
 mod every_outcome;
 mod finder;
 mod given;

@@ -10,13 +10,15 @@ use Rattle.pg_reach.specs.declared.walker.Walker.{Walker}
 use Rattle.pg_inval.specs.Drops.{IsTableLevel}
 use Rattle.pg_reach.specs.declared.reach.Reach.{Reach}
 use Rattle.pg_reach.specs.Views.{Viewed}
-use Rattle.pg_reach.specs.Reaching.{IsReach, AreRoots, AreBelow}
+use Rattle.pg_reach.specs.declared.descent.Descent.{Descent}
+use Rattle.pg_reach.specs.Descents.{AreLevels, by_level}
+use Rattle.pg_reach.specs.Reaching.{IsReach}
 use Rattle.pg_reach.specs.Bounds.{bound_of}
 use Rattle.pg_reach.specs.Placed.{with_outcome}
 use Rattle.pg_reach.specs.Ends.{AreRefused}
 use Rattle.pg_reach.specs.ByOutcome.{Findings, found_at, IsGrown}
 use Rattle.pg_reach.proofs.Refusals.{all_better}
-use Rattle.pg_reach.proofs.Levels.{by_level}
+use Rattle.pg_reach.proofs.Coming.{each_level}
 use Rattle.pg_reach.proofs.Whole.{AreWhole, all_under}
 use Rattle.pg_reach.proofs.EveryOutcome.{on_ok_both, grown_on, well_placed, asks_placed}
 use Rattle.pg_reach.proofs.every_outcome.every_under.Goals as goal
@@ -41,31 +43,25 @@ returns-clause-all c = on_ok_both c.note_reaches-4.result (λ last_grown last_no
     let e : Event = with_outcome o view.event in
     let since : ℕ = c.args.bounds.one in
     let found : Option (List ℕ) = (found_at c.note_reaches-4.new.found) o in
+    let lists : Level → List Reach = by_level c.in_ok-tables.tables in
     let refused : Level → List Reach → Option (List ℕ) → Type 0 = λ level xs found. All (λ x. AreRefused r v e level (max x.from since) (min x.to v.number + 1) x found) xs in
-    let roots : AreRoots r v c.args.bounds.four c.in_ok-fours.fours = subst (λ low. AreRoots r v low c.in_ok-fours.fours) c.requires.low c.in_ok-fours.ensures in
-    let threes : AreBelow r v Four c.args.bounds.four c.in_ok-fours.fours c.in_ok-threes.threes = subst (λ (xs : List Reach). AreBelow r v Four c.args.bounds.four xs c.in_ok-threes.threes) c.as_slice.ensures c.in_ok-threes.ensures in
-    let twos : AreBelow r v Three c.args.bounds.three c.in_ok-threes.threes c.in_ok-twos.twos = subst (λ (xs : List Reach). AreBelow r v Three c.args.bounds.three xs c.in_ok-twos.twos) c.as_slice-2.ensures c.in_ok-twos.ensures in
-    let ones : AreBelow r v Two c.args.bounds.two c.in_ok-twos.twos c.in_ok-ones.ones = subst (λ (xs : List Reach). AreBelow r v Two c.args.bounds.two xs c.in_ok-ones.ones) c.as_slice-3.ensures c.in_ok-ones.ensures in
-    let one : refused One c.in_ok-ones.ones ((found_at c.note_reaches.new.found) o) = subst (λ (xs : List Reach). refused One xs ((found_at c.note_reaches.new.found) o)) c.as_slice-4.ensures (c.in_ok-note_reaches.ensures.none o) in
-    let two : refused Two c.in_ok-twos.twos ((found_at c.note_reaches-2.new.found) o) = subst (λ (xs : List Reach). refused Two xs ((found_at c.note_reaches-2.new.found) o)) c.as_slice-5.ensures (c.in_ok-note_reaches-2.ensures.none o) in
-    let three : refused Three c.in_ok-threes.threes ((found_at c.note_reaches-3.new.found) o) = subst (λ (xs : List Reach). refused Three xs ((found_at c.note_reaches-3.new.found) o)) c.as_slice-6.ensures (c.in_ok-note_reaches-3.ensures.none o) in
-    let four : refused Four c.in_ok-fours.fours found = subst (λ (xs : List Reach). refused Four xs found) c.as_slice-7.ensures (last_none o) in
+    let one : refused One c.in_ok-tables.tables.ones ((found_at c.note_reaches.new.found) o) = subst (λ (xs : List Reach). refused One xs ((found_at c.note_reaches.new.found) o)) c.as_slice.ensures (c.in_ok-note_reaches.ensures.none o) in
+    let two : refused Two c.in_ok-tables.tables.twos ((found_at c.note_reaches-2.new.found) o) = subst (λ (xs : List Reach). refused Two xs ((found_at c.note_reaches-2.new.found) o)) c.as_slice-2.ensures (c.in_ok-note_reaches-2.ensures.none o) in
+    let three : refused Three c.in_ok-tables.tables.threes ((found_at c.note_reaches-3.new.found) o) = subst (λ (xs : List Reach). refused Three xs ((found_at c.note_reaches-3.new.found) o)) c.as_slice-3.ensures (c.in_ok-note_reaches-3.ensures.none o) in
+    let four : refused Four c.in_ok-tables.tables.fours found = subst (λ (xs : List Reach). refused Four xs found) c.as_slice-4.ensures (last_none o) in
     let after_three : IsGrown r v.number v.freshest view.event (found_at c.note_reaches-3.new.found) (found_at c.note_reaches-4.new.found) = last_grown in
     let after_two : IsGrown r v.number v.freshest view.event (found_at c.note_reaches-2.new.found) (found_at c.note_reaches-4.new.found) = grown_on r v.number v.freshest view.event (found_at c.note_reaches-2.new.found) (found_at c.note_reaches-3.new.found) (found_at c.note_reaches-4.new.found) c.in_ok-note_reaches-3.ensures.grown after_three in
     let after_one : IsGrown r v.number v.freshest view.event (found_at c.note_reaches.new.found) (found_at c.note_reaches-4.new.found) = grown_on r v.number v.freshest view.event (found_at c.note_reaches.new.found) (found_at c.note_reaches-2.new.found) (found_at c.note_reaches-4.new.found) c.in_ok-note_reaches-2.ensures.grown after_two in
-    let lists : Level → List Reach = by_level c.in_ok-fours.fours c.in_ok-threes.threes c.in_ok-twos.twos c.in_ok-ones.ones in
+    let levels : AreLevels r v c.args.bounds lists = c.in_ok-tables.ensures in
     let whole : AreWhole r v e since c.args.bounds lists found = record {
       bounds = c.requires.bounds;
-      levels = record {
-        roots = roots;
-        below = λ level. elim level as (λ l. IsTableLevel l → AreBelow r v l (bound_of c.args.bounds l) (lists l) (lists (below l))) [ Four ↦ λ deep. threes | Three ↦ λ deep. twos | Two ↦ λ deep. ones | One ↦ λ deep. absurd deep ];
-      };
-      each = λ level. elim level as (λ l. All (IsReach r v l) (lists l)) [ Four ↦ roots.each | Three ↦ threes.each | Two ↦ twos.each | One ↦ ones.each ];
+      levels = levels;
+      each = each_level r v c.args.bounds lists levels;
       refused = λ level. elim level as (λ l. refused l (lists l) found) [
         | Four ↦ four
-        | Three ↦ all_better r v e Three since c.in_ok-threes.threes ((found_at c.note_reaches-3.new.found) o) found (after_three.fresher o) three
-        | Two ↦ all_better r v e Two since c.in_ok-twos.twos ((found_at c.note_reaches-2.new.found) o) found (after_two.fresher o) two
-        | One ↦ all_better r v e One since c.in_ok-ones.ones ((found_at c.note_reaches.new.found) o) found (after_one.fresher o) one
+        | Three ↦ all_better r v e Three since c.in_ok-tables.tables.threes ((found_at c.note_reaches-3.new.found) o) found (after_three.fresher o) three
+        | Two ↦ all_better r v e Two since c.in_ok-tables.tables.twos ((found_at c.note_reaches-2.new.found) o) found (after_two.fresher o) two
+        | One ↦ all_better r v e One since c.in_ok-tables.tables.ones ((found_at c.note_reaches.new.found) o) found (after_one.fresher o) one
       ];
       small = c.requires.small;
       within = c.requires.within;
@@ -73,13 +69,13 @@ returns-clause-all c = on_ok_both c.note_reaches-4.result (λ last_grown last_no
     all_under r v e since c.args.bounds lists found (well_placed r.head view.event o c.requires.well) (asks_placed v view.event o c.requires.asks) whole) c.note_reaches-4.ensures.grown c.note_reaches-4.ensures.none
 
 pub note_reaches-requires-clause-each : goal.note_reaches-requires-clause-each
-note_reaches-requires-clause-each c = subst (All (IsReach c.args.view.now.run c.args.view.now.walker One)) (sym c.as_slice-4.ensures) c.in_ok-ones.ensures.each
+note_reaches-requires-clause-each c = subst (All (IsReach c.args.view.now.run c.args.view.now.walker One)) (sym c.as_slice.ensures) (each_level c.args.view.now.run c.args.view.now.walker c.args.bounds (by_level c.in_ok-tables.tables) c.in_ok-tables.ensures One)
 
 pub note_reaches-requires-2-clause-each : goal.note_reaches-requires-2-clause-each
-note_reaches-requires-2-clause-each c = subst (All (IsReach c.args.view.now.run c.args.view.now.walker Two)) (sym c.as_slice-5.ensures) c.in_ok-twos.ensures.each
+note_reaches-requires-2-clause-each c = subst (All (IsReach c.args.view.now.run c.args.view.now.walker Two)) (sym c.as_slice-2.ensures) (each_level c.args.view.now.run c.args.view.now.walker c.args.bounds (by_level c.in_ok-tables.tables) c.in_ok-tables.ensures Two)
 
 pub note_reaches-requires-3-clause-each : goal.note_reaches-requires-3-clause-each
-note_reaches-requires-3-clause-each c = subst (All (IsReach c.args.view.now.run c.args.view.now.walker Three)) (sym c.as_slice-6.ensures) c.in_ok-threes.ensures.each
+note_reaches-requires-3-clause-each c = subst (All (IsReach c.args.view.now.run c.args.view.now.walker Three)) (sym c.as_slice-3.ensures) (each_level c.args.view.now.run c.args.view.now.walker c.args.bounds (by_level c.in_ok-tables.tables) c.in_ok-tables.ensures Three)
 
 pub note_reaches-requires-4-clause-each : goal.note_reaches-requires-4-clause-each
-note_reaches-requires-4-clause-each c = subst (All (IsReach c.args.view.now.run c.args.view.now.walker Four)) (sym c.as_slice-7.ensures) c.in_ok-fours.ensures.each
+note_reaches-requires-4-clause-each c = subst (All (IsReach c.args.view.now.run c.args.view.now.walker Four)) (sym c.as_slice-4.ensures) (each_level c.args.view.now.run c.args.view.now.walker c.args.bounds (by_level c.in_ok-tables.tables) c.in_ok-tables.ensures Four)
