@@ -113,8 +113,9 @@ pub(crate) fn tell(
     Ok(walk)
 }
 
-/// The entries that moments of processor `p` name for a linear address, from level 4 down, each with
-/// the event that wrote it. What stands below an entry that is no table is read as if it were one.
+/// The entries that moments of processor `p` name for a linear address, from level 4 down, each
+/// with the event that wrote it. What stands below an entry that is no table is read as if it were
+/// one.
 ///
 /// For each entry it takes a pass over the events below its moment (`Seen::writer` of `pg_search`).
 /// It fails only where memory is refused.
