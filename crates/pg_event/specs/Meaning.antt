@@ -47,20 +47,32 @@ changed a value (changes.Flags addr dirty) = if addr == a then marked dirty valu
 -- whether an invalidation takes out a paging-structure-cache entry
 abbrev pub takes_structure : Invalidation → StructureKey → Bool
 takes_structure Nothing s = false
-takes_structure (Address pcid la globals) s = s.pcid == pcid && structure_matches s la
+takes_structure (Address pcid la structures translations globals) s =
+    structures && s.pcid == pcid && structure_matches s la
 takes_structure (Page pcid la) s = s.pcid == pcid
 takes_structure (Pcid pcid) s = s.pcid == pcid
 takes_structure (Everything globals) s = true
 
--- whether a translation is one of a PCID, or a global one where those go
-abbrev pub goes : TranslationKey → ℕ → Bool → Bool
-goes t pcid globals = if t.global then globals else t.pcid == pcid
+-- whether a translation goes: one of a PCID that is not global where those go, or a global one
+-- where these go
+abbrev pub goes : TranslationKey → ℕ → Bool → Bool → Bool
+goes t pcid translations globals =
+    if t.global then globals else translations && t.pcid == pcid
 
 -- whether an invalidation takes out a translation
 abbrev pub takes_translation : Invalidation → TranslationKey → Bool
 takes_translation Nothing t = false
-takes_translation (Address pcid la globals) t =
-    translation_matches t la && goes t pcid globals
-takes_translation (Page pcid la) t = translation_matches t la && goes t pcid true
-takes_translation (Pcid pcid) t = goes t pcid false
+takes_translation (Address pcid la structures translations globals) t =
+    translation_matches t la && goes t pcid translations globals
+takes_translation (Page pcid la) t = translation_matches t la && goes t pcid true true
+takes_translation (Pcid pcid) t = goes t pcid true false
 takes_translation (Everything globals) t = globals || not t.global
+
+-- whether an invalidation of an address says that something goes
+abbrev pub names_some : Invalidation → Bool
+names_some Nothing = true
+names_some (Address pcid la structures translations globals) =
+    structures || translations || globals
+names_some (Page pcid la) = true
+names_some (Pcid pcid) = true
+names_some (Everything globals) = true

@@ -13,12 +13,14 @@ same_where h k b version cfg segment processors = (
   λ same. processors.1 (ap (λ (h : Head). h.processors) same),
 )
 
-same_cfg : (a b : Cfg) → (a.flags.0 == b.flags.0 && a.m == b.m) ≡ true → a ≡ b
+same_cfg : (a b : Cfg) → (a.flags.0 == b.flags.0 && (a.m == b.m && a.rules.0 == b.rules.0)) ≡ true → a ≡ b
 same_cfg a b both =
-    let parts = and_parts (a.flags.0 == b.flags.0) (a.m == b.m) both in
+    let parts = and_parts (a.flags.0 == b.flags.0) (a.m == b.m && a.rules.0 == b.rules.0) both in
+    let others = and_parts (a.m == b.m) (a.rules.0 == b.rules.0) parts.1 in
     let flags = eqb-true a.flags.0 b.flags.0 parts.0 in
-    let m = eqb-true a.m b.m parts.1 in
-    λ i. record { flags = record { 0 = flags i }; m = m i }
+    let m = eqb-true a.m b.m others.0 in
+    let rules = eqb-true a.rules.0 b.rules.0 others.1 in
+    λ i. record { flags = record { 0 = flags i }; m = m i; rules = record { 0 = rules i } }
 
 pair_decides : (a b : ℕ × Bool) (p q : Bool) → Decides p (a.0 ≡ b.0) → Decides q (a.1 ≡ b.1) → Decides (p && q) (a ≡ b)
 pair_decides a b p q first second = (
