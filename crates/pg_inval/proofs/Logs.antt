@@ -15,11 +15,12 @@ use Rattle.pg_inval.specs.declared.class.Class.TheVariants.{Pages, LargePages}
 use Rattle.pg_inval.specs.declared.key.DropKey.{DropKey}
 use Rattle.pg_inval.specs.declared.key.DropKey.TheVariants as keys
 use Rattle.pg_inval.specs.declared.log.LogEntry.{LogEntry}
-use Rattle.pg_inval.specs.Keys.{has_key, dropped_keys}
-use Rattle.pg_inval.specs.Classes.{class_of, keys_in}
+use Rattle.pg_event.specs.Invalidation.{translation_key}
+use Rattle.pg_inval.specs.Keys.{has_key, local_at, structures_for, locals_for, globals_for, dropped_keys}
+use Rattle.pg_inval.specs.Classes.{class_of, keys_in, large_pages_for}
 use Rattle.pg_inval.specs.Packed.{invalidation_of}
 use Rattle.pg_inval.specs.Lists.{has_drop, has_among, cut_log, IsRisingFrom, AreBefore, stamps_of}
-use Rattle.pg_inval.proofs.Table.{flip}
+use Rattle.pg_inval.proofs.Table.{flip, has_given, address_has, of_none, of_structures, of_locals, of_globals}
 
 or_false : (b : Bool) → (b || false) ≡ b
 or_false true = refl
@@ -82,8 +83,9 @@ has_drop-parts log k i j =
 -- a page of 4 KiB
 small_in : (q c n p : ℕ) (i : Invalidation) → has_key (keys_in Pages p i) (keys.Local 12 q c n) ≡ has_key (dropped_keys p i) (keys.Local 12 q c n)
 small_in q c n p Nothing = refl
-small_in q c n p (Address pcid la true) = refl
-small_in q c n p (Address pcid la false) = refl
+small_in q c n p (Address pcid la s t g) =
+    let own : DropKey = keys.Local 12 q c n in
+    has_given t (local_at p (translation_key pcid 12 false la) ∷ []) own ∙ sym (address_has p pcid la s t g own ∙ of_locals s t g (has_key (locals_for p pcid la) own))
 small_in q c n p (Page pcid la) = refl
 small_in q c n p (Pcid pcid) = refl
 small_in q c n p (Everything true) = refl
@@ -95,8 +97,10 @@ passed_over b x y h = sym (ap (λ z. (z && y) || x) h)
 
 large_in : (s q c n p : ℕ) (i : Invalidation) → nat_eq 12 s ≡ false → has_key (keys_in LargePages p i) (keys.Local s q c n) ≡ has_key (dropped_keys p i) (keys.Local s q c n)
 large_in s q c n p Nothing h = refl
-large_in s q c n p (Address pcid la true) h = passed_over (nat_eq 12 s) _ _ h
-large_in s q c n p (Address pcid la false) h = passed_over (nat_eq 12 s) _ _ h
+large_in z q c n p (Address pcid la s t g) h =
+    let own : DropKey = keys.Local z q c n in
+    has_given t (large_pages_for p pcid la) own ∙ ap (λ b. t && b) (passed_over (nat_eq 12 z) _ _ h)
+    ∙ sym (address_has p pcid la s t g own ∙ of_locals s t g (has_key (locals_for p pcid la) own))
 large_in s q c n p (Page pcid la) h = passed_over (nat_eq 12 s) _ _ h
 large_in s q c n p (Pcid pcid) h = refl
 large_in s q c n p (Everything true) h = refl
@@ -115,43 +119,41 @@ local_in s q c n p i =
 pub in_class : (k : DropKey) (p : ℕ) (i : Invalidation) → has_key (keys_in (class_of k) p i) k ≡ has_key (dropped_keys p i) k
 in_class (keys.Local s q c n) p i = local_in s q c n p i
 in_class (keys.NotGlobal q) p Nothing = refl
-in_class (keys.NotGlobal q) p (Address pcid la true) = refl
-in_class (keys.NotGlobal q) p (Address pcid la false) = refl
+in_class (keys.NotGlobal q) p (Address pcid la s t g) = sym (address_has p pcid la s t g (keys.NotGlobal q) ∙ of_none s t g)
 in_class (keys.NotGlobal q) p (Page pcid la) = refl
 in_class (keys.NotGlobal q) p (Pcid pcid) = refl
 in_class (keys.NotGlobal q) p (Everything true) = refl
 in_class (keys.NotGlobal q) p (Everything false) = refl
 in_class (keys.Globals q) p Nothing = refl
-in_class (keys.Globals q) p (Address pcid la true) = refl
-in_class (keys.Globals q) p (Address pcid la false) = refl
+in_class (keys.Globals q) p (Address pcid la s t g) = sym (address_has p pcid la s t g (keys.Globals q) ∙ of_none s t g)
 in_class (keys.Globals q) p (Page pcid la) = refl
 in_class (keys.Globals q) p (Pcid pcid) = refl
 in_class (keys.Globals q) p (Everything true) = refl
 in_class (keys.Globals q) p (Everything false) = refl
 in_class (keys.StructuresOf q c) p Nothing = refl
-in_class (keys.StructuresOf q c) p (Address pcid la true) = refl
-in_class (keys.StructuresOf q c) p (Address pcid la false) = refl
+in_class (keys.StructuresOf q c) p (Address pcid la s t g) = sym (address_has p pcid la s t g (keys.StructuresOf q c) ∙ of_none s t g)
 in_class (keys.StructuresOf q c) p (Page pcid la) = refl
 in_class (keys.StructuresOf q c) p (Pcid pcid) = refl
 in_class (keys.StructuresOf q c) p (Everything true) = refl
 in_class (keys.StructuresOf q c) p (Everything false) = refl
 in_class (keys.Structure s q c n) p Nothing = refl
-in_class (keys.Structure s q c n) p (Address pcid la true) = refl
-in_class (keys.Structure s q c n) p (Address pcid la false) = refl
+in_class (keys.Structure z q c n) p (Address pcid la s t g) =
+    let own : DropKey = keys.Structure z q c n in
+    has_given s (structures_for p pcid la) own ∙ sym (address_has p pcid la s t g own ∙ of_structures s t g (has_key (structures_for p pcid la) own))
 in_class (keys.Structure s q c n) p (Page pcid la) = refl
 in_class (keys.Structure s q c n) p (Pcid pcid) = refl
 in_class (keys.Structure s q c n) p (Everything true) = refl
 in_class (keys.Structure s q c n) p (Everything false) = refl
 in_class (keys.LocalsOf q c) p Nothing = refl
-in_class (keys.LocalsOf q c) p (Address pcid la true) = refl
-in_class (keys.LocalsOf q c) p (Address pcid la false) = refl
+in_class (keys.LocalsOf q c) p (Address pcid la s t g) = sym (address_has p pcid la s t g (keys.LocalsOf q c) ∙ of_none s t g)
 in_class (keys.LocalsOf q c) p (Page pcid la) = refl
 in_class (keys.LocalsOf q c) p (Pcid pcid) = refl
 in_class (keys.LocalsOf q c) p (Everything true) = refl
 in_class (keys.LocalsOf q c) p (Everything false) = refl
 in_class (keys.Global s q n) p Nothing = refl
-in_class (keys.Global s q n) p (Address pcid la true) = refl
-in_class (keys.Global s q n) p (Address pcid la false) = refl
+in_class (keys.Global z q n) p (Address pcid la s t g) =
+    let own : DropKey = keys.Global z q n in
+    has_given g (globals_for p la) own ∙ sym (address_has p pcid la s t g own ∙ of_globals s t g (has_key (globals_for p la) own))
 in_class (keys.Global s q n) p (Page pcid la) = refl
 in_class (keys.Global s q n) p (Pcid pcid) = refl
 in_class (keys.Global s q n) p (Everything true) = refl

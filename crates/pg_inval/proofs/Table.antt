@@ -1,6 +1,7 @@
 -- An invalidation takes out an entry where one of the entry's keys is among its own.
-use Rattle.std.proofs.Common.{◌≡◌, ℕ, Bool, true, false, ◌&&◌, ◌||◌, nat_eq, List, refl, ap, sym, subst, ◌∙◌, inl, inr}
+use Rattle.std.proofs.Common.{◌≡◌, ℕ, Bool, true, false, ◌&&◌, ◌||◌, nat_eq, List, ◌++◌, refl, ap, sym, subst, ◌∙◌, inl, inr}
 use Rattle.std.specs.List.{list_any}
+use Rattle.std.proofs.lemmas.List.Folds.{list_any-append}
 use Rattle.std.proofs.lemmas.Bool.{eqb-true, eq-eqb, cases_Bool, false_from_ne_true, false≢true}
 use Rattle.pg_entry.specs.declared.Level.{Level}
 use Rattle.pg_entry.specs.declared.Level.TheVariants.{Four, Three, Two, One}
@@ -12,7 +13,7 @@ use Rattle.pg_event.specs.Invalidation.{level_shift, bits_from}
 use Rattle.pg_event.specs.Meaning.{takes_structure, takes_translation}
 use Rattle.pg_inval.specs.declared.key.DropKey.{DropKey}
 use Rattle.pg_inval.specs.declared.key.DropKey.TheVariants as keys
-use Rattle.pg_inval.specs.Keys.{has_key, structure_keys, translation_keys, structures_for, locals_for, globals_for, dropped_keys}
+use Rattle.pg_inval.specs.Keys.{is_same_key, has_key, structure_keys, translation_keys, structures_for, locals_for, globals_for, given, dropped_keys}
 use Rattle.pg_entry.specs.Kinds.{IsPageShift}
 use Rattle.pg_inval.specs.Drops.{CacheEntry, Structure, Translation, MayBeCached, keys_of}
 
@@ -41,6 +42,39 @@ flip x y =
 -- whether the entry of one event is that of one key
 flips : (a : Bool) (c d x y : ℕ) → (a && (nat_eq c d && nat_eq x y)) ≡ (a && (nat_eq d c && nat_eq y x))
 flips a c d x y = ap (λ b. a && (b && nat_eq x y)) (flip c d) ∙ ap (λ b. a && (nat_eq d c && b)) (flip x y)
+
+-- ---- what goes at an address, by its parts
+
+pub has_given : (go : Bool) (ks : List DropKey) (k : DropKey) → has_key (given go ks) k ≡ (go && has_key ks k)
+has_given true ks k = refl
+has_given false ks k = refl
+
+pub address_has : (p pcid la : ℕ) (s t g : Bool) (k : DropKey) →
+    has_key (dropped_keys p (Address pcid la s t g)) k
+    ≡ ((s && has_key (structures_for p pcid la) k) || ((t && has_key (locals_for p pcid la) k) || (g && has_key (globals_for p la) k)))
+address_has p pcid la s t g k =
+    let own : DropKey → Bool = λ d. is_same_key d k in
+    let structures : List DropKey = given s (structures_for p pcid la) in
+    let locals : List DropKey = given t (locals_for p pcid la) in
+    let globals : List DropKey = given g (globals_for p la) in
+    list_any-append own structures (locals ++ globals)
+    ∙ ap (λ b. has_key structures k || b) (list_any-append own locals globals)
+    ∙ ap (λ b. b || (has_key locals k || has_key globals k)) (has_given s (structures_for p pcid la) k)
+    ∙ ap (λ b. (s && has_key (structures_for p pcid la) k) || (b || has_key globals k)) (has_given t (locals_for p pcid la) k)
+    ∙ ap (λ b. (s && has_key (structures_for p pcid la) k) || ((t && has_key (locals_for p pcid la) k) || b)) (has_given g (globals_for p la) k)
+
+-- a key that is of none of the parts, or of one alone
+pub of_none : (s t g : Bool) → ((s && false) || ((t && false) || (g && false))) ≡ false
+of_none s t g = ap (λ b. b || ((t && false) || (g && false))) (never s) ∙ ap (λ b. b || (g && false)) (never t) ∙ never g
+
+pub of_structures : (s t g x : Bool) → ((s && x) || ((t && false) || (g && false))) ≡ (s && x)
+of_structures s t g x = ap (λ b. (s && x) || (b || (g && false))) (never t) ∙ ap (λ b. (s && x) || b) (never g) ∙ or_false (s && x)
+
+pub of_locals : (s t g x : Bool) → ((s && false) || ((t && x) || (g && false))) ≡ (t && x)
+of_locals s t g x = ap (λ b. b || ((t && x) || (g && false))) (never s) ∙ ap (λ b. (t && x) || b) (never g) ∙ or_false (t && x)
+
+pub of_globals : (s t g x : Bool) → ((s && false) || ((t && false) || (g && x))) ≡ (g && x)
+of_globals s t g x = ap (λ b. b || ((t && false) || (g && x))) (never s) ∙ ap (λ b. b || (g && x)) (never t)
 
 -- ---- the entries that would be used for an address
 
@@ -80,14 +114,25 @@ globals_hit q p la number shift (inr (inr e)) =
 
 -- ---- structure entries
 
+first_none : (x y z : Bool) → x ≡ false → y ≡ false → (x || (y || (z || false))) ≡ z
+first_none x y z a b = ap (λ v. v || (y || (z || false))) a ∙ ap (λ v. v || (z || false)) b ∙ or_false z
+
+moved : (s q a b : Bool) → (s && (q && (a && b))) ≡ (q && (s && a && b))
+moved true q a b = refl
+moved false q a b = sym (never q)
+
 abbrev structure_of : ℕ → Level → ℕ → StructureKey
 structure_of pcid level prefix = record { pcid = pcid; level = level; prefix = prefix }
 
 structure_table : (i : Invalidation) (q p pcid prefix : ℕ) (level : Level) → MayBeCached (Structure (structure_of pcid level prefix)) →
     is_hit (dropped_keys q i) (structure_keys p (structure_of pcid level prefix)) ≡ (nat_eq q p && takes_structure i (structure_of pcid level prefix))
 structure_table Nothing q p pcid prefix level may = sym (never (nat_eq q p))
-structure_table (Address c la true) q p pcid prefix level may = or_false _ ∙ structures_hit q p c pcid la prefix level may
-structure_table (Address c la false) q p pcid prefix level may = or_false _ ∙ structures_hit q p c pcid la prefix level may
+structure_table (Address c la s t g) q p pcid prefix level may =
+    let own : DropKey = keys.Structure (level_shift level) p pcid prefix in
+    first_none _ _ _ (address_has q c la s t g (keys.NotGlobal p) ∙ of_none s t g) (address_has q c la s t g (keys.StructuresOf p pcid) ∙ of_none s t g)
+    ∙ address_has q c la s t g own ∙ of_structures s t g (has_key (structures_for q c la) own)
+    ∙ ap (λ b. s && b) (structures_hit q p c pcid la prefix level may)
+    ∙ moved s (nat_eq q p) (nat_eq pcid c) (nat_eq prefix (bits_from (level_shift level) la))
 structure_table (Page c la) q p pcid prefix level may = or_false _ ∙ or_false _ ∙ one_flip (nat_eq q p) c pcid
 structure_table (Pcid c) q p pcid prefix level may = or_false _ ∙ or_false _ ∙ one_flip (nat_eq q p) c pcid
 structure_table (Everything true) q p pcid prefix level may = or_false _ ∙ or_false _ ∙ sym (and_true (nat_eq q p))
@@ -98,9 +143,16 @@ structure_table (Everything false) q p pcid prefix level may = or_false _ ∙ or
 abbrev translation_of : ℕ → ℕ → ℕ → Bool → TranslationKey
 translation_of pcid shift number global = record { pcid = pcid; shift = shift; number = number; global = global }
 
-none_global : (a x : Bool) → false ≡ (a && (x && false))
-none_global true x = sym (never x)
-none_global false x = refl
+second_none : (x z : Bool) → x ≡ false → (x || (z || false)) ≡ z
+second_none x z a = ap (λ v. v || (z || false)) a ∙ or_false z
+
+moved_in : (t q n x : Bool) → (t && (q && (n && x))) ≡ (q && (n && (t && x)))
+moved_in true q n x = refl
+moved_in false q n x = sym (ap (λ b. q && b) (never n) ∙ never q)
+
+swapped_in : (g q n : Bool) → (g && (q && n)) ≡ (q && (n && g))
+swapped_in true q n = ap (λ b. q && b) (sym (and_true n))
+swapped_in false q n = sym (ap (λ b. q && b) (never n) ∙ never q)
 
 swapped : (a x y : Bool) → (a && (x && y)) ≡ (a && (y && x))
 swapped true true y = sym (and_true y)
@@ -122,10 +174,18 @@ translation_table : (i : Invalidation) (q p pcid number shift : ℕ) (g : Bool) 
     is_hit (dropped_keys q i) (translation_keys p (translation_of pcid shift number g)) ≡ (nat_eq q p && takes_translation i (translation_of pcid shift number g))
 translation_table Nothing q p pcid number shift true page = sym (never (nat_eq q p))
 translation_table Nothing q p pcid number shift false page = sym (never (nat_eq q p))
-translation_table (Address c la true) q p pcid number shift true page = own_global q p la number shift page
-translation_table (Address c la true) q p pcid number shift false page = own_local q p c pcid la number shift page
-translation_table (Address c la false) q p pcid number shift true page = none_global (nat_eq q p) (nat_eq number (bits_from shift la))
-translation_table (Address c la false) q p pcid number shift false page = own_local q p c pcid la number shift page
+translation_table (Address c la s t g) q p pcid number shift true page =
+    let own : DropKey = keys.Global shift p number in
+    second_none _ _ (address_has q c la s t g (keys.Globals p) ∙ of_none s t g)
+    ∙ address_has q c la s t g own ∙ of_globals s t g (has_key (globals_for q la) own)
+    ∙ ap (λ b. g && b) (globals_hit q p la number shift page)
+    ∙ swapped_in g (nat_eq q p) (nat_eq number (bits_from shift la))
+translation_table (Address c la s t g) q p pcid number shift false page =
+    let own : DropKey = keys.Local shift p pcid number in
+    first_none _ _ _ (address_has q c la s t g (keys.NotGlobal p) ∙ of_none s t g) (address_has q c la s t g (keys.LocalsOf p pcid) ∙ of_none s t g)
+    ∙ address_has q c la s t g own ∙ of_locals s t g (has_key (locals_for q c la) own)
+    ∙ ap (λ b. t && b) (locals_hit q p c pcid la number shift page ∙ swapped (nat_eq q p) (nat_eq pcid c) (nat_eq number (bits_from shift la)))
+    ∙ moved_in t (nat_eq q p) (nat_eq number (bits_from shift la)) (nat_eq pcid c)
 translation_table (Page c la) q p pcid number shift true page = own_global q p la number shift page
 translation_table (Page c la) q p pcid number shift false page = own_local q p c pcid la number shift page
 translation_table (Pcid c) q p pcid number shift true page = sym (never (nat_eq q p))

@@ -9,7 +9,7 @@ use Rattle.pg_inval.specs.declared.class.Class.TheVariants.{Pages, LargePages, G
 use Rattle.pg_inval.specs.declared.class.Class.TheVariants.{Regions, Spaces}
 use Rattle.pg_inval.specs.declared.key.DropKey.{DropKey}
 use Rattle.pg_inval.specs.declared.key.DropKey.TheVariants as keys
-use Rattle.pg_inval.specs.Keys.{structures_for, local_at, globals_for}
+use Rattle.pg_inval.specs.Keys.{structures_for, local_at, globals_for, given}
 
 abbrev pub class_of : DropKey → Class
 class_of (keys.NotGlobal p) = Spaces
@@ -35,7 +35,8 @@ is_wide k = is_wide_class (class_of k)
 -- what an invalidation on p drops of a class
 abbrev pub pages_in : ℕ → Invalidation → List DropKey
 pages_in p Nothing = []
-pages_in p (Address pcid la globals) = local_at p (translation_key pcid 12 false la) ∷ []
+pages_in p (Address pcid la structures translations globals) =
+    given translations (local_at p (translation_key pcid 12 false la) ∷ [])
 pages_in p (Page pcid la) = local_at p (translation_key pcid 12 false la) ∷ []
 pages_in p (Pcid pcid) = []
 pages_in p (Everything globals) = []
@@ -47,28 +48,31 @@ large_pages_for p pcid la =
 
 abbrev pub large_pages_in : ℕ → Invalidation → List DropKey
 large_pages_in p Nothing = []
-large_pages_in p (Address pcid la globals) = large_pages_for p pcid la
+large_pages_in p (Address pcid la structures translations globals) =
+    given translations (large_pages_for p pcid la)
 large_pages_in p (Page pcid la) = large_pages_for p pcid la
 large_pages_in p (Pcid pcid) = []
 large_pages_in p (Everything globals) = []
 
 abbrev pub global_pages_in : ℕ → Invalidation → List DropKey
 global_pages_in p Nothing = []
-global_pages_in p (Address pcid la globals) = if globals then globals_for p la else []
+global_pages_in p (Address pcid la structures translations globals) =
+    given globals (globals_for p la)
 global_pages_in p (Page pcid la) = globals_for p la
 global_pages_in p (Pcid pcid) = []
 global_pages_in p (Everything globals) = []
 
 abbrev pub regions_in : ℕ → Invalidation → List DropKey
 regions_in p Nothing = []
-regions_in p (Address pcid la globals) = structures_for p pcid la
+regions_in p (Address pcid la structures translations globals) =
+    given structures (structures_for p pcid la)
 regions_in p (Page pcid la) = []
 regions_in p (Pcid pcid) = []
 regions_in p (Everything globals) = []
 
 abbrev pub spaces_in : ℕ → Invalidation → List DropKey
 spaces_in p Nothing = []
-spaces_in p (Address pcid la globals) = []
+spaces_in p (Address pcid la structures translations globals) = []
 spaces_in p (Page pcid la) = keys.StructuresOf p pcid ∷ []
 spaces_in p (Pcid pcid) = keys.StructuresOf p pcid ∷ keys.LocalsOf p pcid ∷ []
 spaces_in p (Everything globals) =

@@ -70,12 +70,16 @@ globals_for p la =
     ∷ global_at p (translation_key 0 21 true la)
     ∷ global_at p (translation_key 0 30 true la) ∷ []
 
+-- keys, where they go
+abbrev pub given : Bool → List DropKey → List DropKey
+given go keys = if go then keys else []
+
 -- what an invalidation on p drops
 abbrev pub dropped_keys : ℕ → Invalidation → List DropKey
 dropped_keys p Nothing = []
-dropped_keys p (Address pcid la globals) =
-    structures_for p pcid la
-    ++ (locals_for p pcid la ++ (if globals then globals_for p la else []))
+dropped_keys p (Address pcid la structures translations globals) =
+    given structures (structures_for p pcid la)
+    ++ (given translations (locals_for p pcid la) ++ given globals (globals_for p la))
 dropped_keys p (Page pcid la) =
     StructuresOf p pcid ∷ (locals_for p pcid la ++ globals_for p la)
 dropped_keys p (Pcid pcid) = StructuresOf p pcid ∷ LocalsOf p pcid ∷ []

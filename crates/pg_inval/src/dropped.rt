@@ -2,7 +2,8 @@
 
 ghost use Rattle.std.specs.Prelude.{◌≡◌, []};
 ghost use Rattle.pg_inval.specs.Keys.{structures_for, globals_for};
-ghost use Rattle.pg_inval.specs.Classes.{pages_in, large_pages_in, global_pages_in};
+ghost use Rattle.pg_inval.specs.Classes.{pages_in, large_pages_for, large_pages_in};
+ghost use Rattle.pg_inval.specs.Classes.{global_pages_in};
 ghost use Rattle.pg_inval.specs.Classes.{regions_in, spaces_in, keys_in};
 
 use crate::class::Class;
@@ -31,13 +32,32 @@ fn push_globals(keys: &mut ArrayVec<DropKey, 3>, p: u16, la: u64)
     keys.push(global_at(p, translation_key(0, 30, true, la)));
 }
 
+/// Adds the translations of a PCID that are not global and are of the large pages of an address.
+fn push_large_pages(keys: &mut ArrayVec<DropKey, 3>, p: u16, pcid: u16, la: u64)
+    requires { keys.old.items ≡ [] }
+    ensures { keys.new.items ≡ large_pages_for p pcid la }
+{
+    keys.push(local_at(p, translation_key(pcid, 21, false, la)));
+    keys.push(local_at(p, translation_key(pcid, 30, false, la)));
+}
+
 #[inline(always)]
 fn pages_in(p: u16, invalidation: Invalidation) -> ArrayVec<DropKey, 3>
     ensures { result.items ≡ pages_in p invalidation }
 {
     let mut keys = ArrayVec::new();
     match invalidation {
-        Invalidation::Address { pcid, la, .. } | Invalidation::Page { pcid, la } => {
+        Invalidation::Address {
+            pcid,
+            la,
+            translations,
+            ..
+        } => {
+            if translations {
+                keys.push(local_at(p, translation_key(pcid, 12, false, la)));
+            }
+        }
+        Invalidation::Page { pcid, la } => {
             keys.push(local_at(p, translation_key(pcid, 12, false, la)));
         }
         Invalidation::Nothing | Invalidation::Pcid(_) | Invalidation::Everything { .. } => {}
@@ -51,10 +71,17 @@ fn large_pages_in(p: u16, invalidation: Invalidation) -> ArrayVec<DropKey, 3>
 {
     let mut keys = ArrayVec::new();
     match invalidation {
-        Invalidation::Address { pcid, la, .. } | Invalidation::Page { pcid, la } => {
-            keys.push(local_at(p, translation_key(pcid, 21, false, la)));
-            keys.push(local_at(p, translation_key(pcid, 30, false, la)));
+        Invalidation::Address {
+            pcid,
+            la,
+            translations,
+            ..
+        } => {
+            if translations {
+                push_large_pages(&mut keys, p, pcid, la);
+            }
         }
+        Invalidation::Page { pcid, la } => push_large_pages(&mut keys, p, pcid, la),
         Invalidation::Nothing | Invalidation::Pcid(_) | Invalidation::Everything { .. } => {}
     }
     keys
@@ -83,7 +110,16 @@ fn regions_in(p: u16, invalidation: Invalidation) -> ArrayVec<DropKey, 3>
 {
     let mut keys = ArrayVec::new();
     match invalidation {
-        Invalidation::Address { pcid, la, .. } => push_structures(&mut keys, p, pcid, la),
+        Invalidation::Address {
+            pcid,
+            la,
+            structures,
+            ..
+        } => {
+            if structures {
+                push_structures(&mut keys, p, pcid, la);
+            }
+        }
         Invalidation::Nothing
         | Invalidation::Page { .. }
         | Invalidation::Pcid(_)

@@ -4,9 +4,8 @@ ghost use Rattle.pg_event.specs.declared.event.Event.{Event};
 ghost use Rattle.pg_event.specs.Form.{processor_of};
 ghost use Rattle.pg_event.specs.Heads.{Head};
 ghost use Rattle.pg_event.specs.Invalidation.{structure_key, translation_key};
-ghost use Rattle.pg_event.specs.Invalidation.{must_drop_structure, must_drop_translation};
 ghost use Rattle.pg_event.specs.Values.{control_at};
-ghost use Rattle.pg_event.specs.Witness.{survives};
+ghost use Rattle.pg_event.specs.Witness.{structure_survives, translation_survives};
 ghost use Rattle.pg_entry.specs.Kinds.{IsPageShift};
 ghost use Rattle.pg_inval.specs.Drops.{Structure, Translation, IsTableLevel, DropsNothing};
 ghost use Rattle.pg_inval.specs.Drops.{next_moment, is_dropped, IsNoted, IsSame, IsCutAt};
@@ -21,7 +20,7 @@ use crate::log::{LogEntry, forget_entries};
 use crate::packed::pack;
 use crate::space::{Space, own_key, space_keys};
 use crate::tally::Tally;
-use pg_entry::Level;
+use pg_entry::{Level, Rules};
 use pg_event::{
     Control, Event, Invalidation, StructureKey, TranslationKey, Window, processor_of,
     structure_key, translation_key,
@@ -88,21 +87,28 @@ impl Drops {
         self.next
     }
 
-    /// Notes the event with this number, where `before` are the control registers of its processor
-    /// just before it; one that drops nothing takes no memory. Fails where memory is refused, and
-    /// then nothing is noted. All lists are made up to it, so that look-ups need go through no log.
-    pub fn note(&mut self, moment: u32, event: &Event, before: Control) -> Result<(), AllocError>
+    /// Notes the event with this number, where its processor is held to `rules`, and `before` are
+    /// the control registers just before it; one that drops nothing takes no memory. Fails where
+    /// memory is refused, and then nothing is noted. All lists are made up to it, so that look-ups
+    /// need go through no log.
+    pub fn note(
+        &mut self,
+        rules: Rules,
+        moment: u32,
+        event: &Event,
+        before: Control,
+    ) -> Result<(), AllocError>
         requires { next_moment self.old ≤ moment }
-        ensures ok { OnOk result (IsNoted self.old self.new moment event.now before) }
+        ensures ok { OnOk result (IsNoted rules self.old self.new moment event.now before) }
         ensures err { OnErr result (IsSame self.old self.new) }
-        ensures none { DropsNothing before event.now → IsOk result }
+        ensures none { DropsNothing rules before event.now → IsOk result }
         ensures run { (head : Head) (events : List Event) → StandsFor self.old head events →
-            moment ≡ length events →
+            rules ≡ head.cfg.rules → moment ≡ length events →
             before ≡ control_at head events (processor_of event.now) moment →
             OnOk result (StandsFor self.new head (events ++ event.now ∷ [])) }
     {
         self.keep_wide();
-        let noted = self.note_later(moment, event, before);
+        let noted = self.note_later(rules, moment, event, before);
         self.catch_up();
         noted
     }
@@ -113,22 +119,23 @@ impl Drops {
     /// `Probes`, so that whoever asks can tell when lists are worth making.
     pub fn note_later(
         &mut self,
+        rules: Rules,
         moment: u32,
         event: &Event,
         before: Control,
     ) -> Result<(), AllocError>
         requires { next_moment self.old ≤ moment }
-        ensures ok { OnOk result (IsNoted self.old self.new moment event.now before) }
+        ensures ok { OnOk result (IsNoted rules self.old self.new moment event.now before) }
         ensures err { OnErr result (IsSame self.old self.new) }
-        ensures none { DropsNothing before event.now → IsOk result }
+        ensures none { DropsNothing rules before event.now → IsOk result }
         ensures run { (head : Head) (events : List Event) → StandsFor self.old head events →
-            moment ≡ length events →
+            rules ≡ head.cfg.rules → moment ≡ length events →
             before ≡ control_at head events (processor_of event.now) moment →
             OnOk result (StandsFor self.new head (events ++ event.now ∷ [])) }
     {
         let next = moment as u64 + 1;
         let p = processor_of(event);
-        let invalidation = event.invalidation(before);
+        let invalidation = event.invalidation(rules, before);
         if let Invalidation::Nothing = invalidation {
             self.next = next;
             return Ok(());
@@ -203,7 +210,7 @@ impl Drops {
             is_dropped self.now p (Translation key) from to ≡ false }
         ensures run { IsTrue result → (head : Head) (events : List Event) →
             StandsFor self.now head events → (to : ℕ) →
-            survives head events p (λ c e. must_drop_translation c e key) from to ≡ true }
+            translation_survives head events p key from to ≡ true }
     {
         if key.global {
             self.lasts
@@ -223,7 +230,7 @@ impl Drops {
             is_dropped self.now p (Structure key) from to ≡ false }
         ensures run { IsTrue result → (head : Head) (events : List Event) →
             StandsFor self.now head events → (to : ℕ) →
-            survives head events p (λ c e. must_drop_structure c e key) from to ≡ true }
+            structure_survives head events p key from to ≡ true }
     {
         let all = DropKey::NotGlobal { p };
         let of_pcid = DropKey::StructuresOf { p, pcid: key.pcid };
@@ -246,7 +253,7 @@ impl Drops {
             ≡ is_dropped self.now p (Structure (structure_key pcid level la)) from to }
         ensures run { let key = structure_key pcid level la in
             (head : Head) (events : List Event) → StandsFor self.now head events →
-            result ≡ not (survives head events p (λ c e. must_drop_structure c e key) from to) }
+            result ≡ not (structure_survives head events p key from to) }
     {
         let key = structure_key(pcid, level, la);
         self.structure_dropped_counted(p, key, Window { from, to }, &mut Probes::new())
@@ -264,8 +271,7 @@ impl Drops {
         requires { IsTableLevel key.level }
         ensures value { result ≡ is_dropped self.now p (Structure key) window.from window.to }
         ensures run { (head : Head) (events : List Event) → StandsFor self.now head events →
-            result ≡ not (survives head events p
-            (λ c e. must_drop_structure c e key) window.from window.to) }
+            result ≡ not (structure_survives head events p key window.from window.to) }
         ensures probes { (probes.old ≤ probes.new) × (probes.new ≤ probes.old + 102) }
     {
         self.first_drop_of_structure(p, key, window, probes)
@@ -286,7 +292,7 @@ impl Drops {
             (is_dropped self.now p (Structure key)) window.from window.to result }
         ensures run { (head : Head) (events : List Event) → StandsFor self.now head events →
             IsFirstDrop
-            (λ a b. not (survives head events p (λ c e. must_drop_structure c e key) a b))
+            (λ a b. not (structure_survives head events p key a b))
             window.from window.to result }
         ensures probes { (probes.old ≤ probes.new) × (probes.new ≤ probes.old + 102) }
     {
@@ -309,7 +315,7 @@ impl Drops {
             (is_dropped self.now p (Structure key)) window.from window.to result }
         ensures run { (head : Head) (events : List Event) → StandsFor self.now head events →
             IsFirstDrop
-            (λ a b. not (survives head events p (λ c e. must_drop_structure c e key) a b))
+            (λ a b. not (structure_survives head events p key a b))
             window.from window.to result }
         ensures probes { (probes.old ≤ probes.new) × (probes.new ≤ probes.old + 102) }
     {
@@ -337,7 +343,7 @@ impl Drops {
             ≡ is_dropped self.now p (Translation (translation_key pcid shift global la)) from to }
         ensures run { let key = translation_key pcid shift global la in
             (head : Head) (events : List Event) → StandsFor self.now head events →
-            result ≡ not (survives head events p (λ c e. must_drop_translation c e key) from to) }
+            result ≡ not (translation_survives head events p key from to) }
     {
         let key = translation_key(pcid, shift, global, la);
         self.translation_dropped_counted(p, key, Window { from, to }, &mut Probes::new())
@@ -355,8 +361,7 @@ impl Drops {
         requires { IsPageShift key.shift }
         ensures value { result ≡ is_dropped self.now p (Translation key) window.from window.to }
         ensures run { (head : Head) (events : List Event) → StandsFor self.now head events →
-            result ≡ not (survives head events p
-            (λ c e. must_drop_translation c e key) window.from window.to) }
+            result ≡ not (translation_survives head events p key window.from window.to) }
         ensures probes { (probes.old ≤ probes.new) × (probes.new ≤ probes.old + 102) }
     {
         self.first_drop_of_translation(p, key, window, probes)
@@ -377,7 +382,7 @@ impl Drops {
             (is_dropped self.now p (Translation key)) window.from window.to result }
         ensures run { (head : Head) (events : List Event) → StandsFor self.now head events →
             IsFirstDrop
-            (λ a b. not (survives head events p (λ c e. must_drop_translation c e key) a b))
+            (λ a b. not (translation_survives head events p key a b))
             window.from window.to result }
         ensures probes { (probes.old ≤ probes.new) × (probes.new ≤ probes.old + 102) }
     {
@@ -400,7 +405,7 @@ impl Drops {
             (is_dropped self.now p (Translation key)) window.from window.to result }
         ensures run { (head : Head) (events : List Event) → StandsFor self.now head events →
             IsFirstDrop
-            (λ a b. not (survives head events p (λ c e. must_drop_translation c e key) a b))
+            (λ a b. not (translation_survives head events p key a b))
             window.from window.to result }
         ensures probes { (probes.old ≤ probes.new) × (probes.new ≤ probes.old + 102) }
     {
@@ -486,8 +491,7 @@ impl Drops {
         requires found { IsSpaceDrop self.now (structure_space p key) window.from window.to found }
         ensures value { result ≡ is_dropped self.now p (Structure key) window.from window.to }
         ensures run { (head : Head) (events : List Event) → StandsFor self.now head events →
-            result ≡ not (survives head events p
-            (λ c e. must_drop_structure c e key) window.from window.to) }
+            result ≡ not (structure_survives head events p key window.from window.to) }
         ensures probes { (probes.old ≤ probes.new) × (probes.new ≤ probes.old + 34) }
     {
         self.first_drop_of_structure_beside(p, key, window, found, probes)
@@ -512,7 +516,7 @@ impl Drops {
             (is_dropped self.now p (Translation key)) window.from window.to result }
         ensures run { (head : Head) (events : List Event) → StandsFor self.now head events →
             IsFirstDrop
-            (λ a b. not (survives head events p (λ c e. must_drop_translation c e key) a b))
+            (λ a b. not (translation_survives head events p key a b))
             window.from window.to result }
         ensures probes { (probes.old ≤ probes.new) × (probes.new ≤ probes.old + 34) }
     {

@@ -3,7 +3,8 @@
 ghost use Rattle.std.specs.Prelude.{◌≡◌, ◌<◌, ◌≤◌, ℕ, IsTrue, true};
 ghost use Rattle.pg_inval.specs.declared.key.DropKey.{DropKey};
 ghost use Rattle.pg_inval.specs.Classes.{is_wide};
-ghost use Rattle.pg_inval.specs.Keys.{structures_for, locals_for, globals_for, dropped_keys};
+ghost use Rattle.pg_inval.specs.Keys.{structures_for, locals_for, globals_for, given};
+ghost use Rattle.pg_inval.specs.Keys.{dropped_keys};
 ghost use Rattle.pg_inval.specs.Lasts.{MayBeAt, MayHave, AreRaised, bounded_from};
 
 use crate::class::is_wide;
@@ -188,6 +189,36 @@ impl Lasts {
         self.raise_wide(global_at(p, translation_key(0, 30, true, la)), moment);
     }
 
+    /// What `raise_structures` does, where they go.
+    #[inline(always)]
+    fn raise_structures_if(&mut self, go: bool, p: u16, pcid: u16, la: u64, moment: u32)
+        ensures { AreRaised self.old self.new (given go (structures_for p pcid la)) moment }
+    {
+        if go {
+            self.raise_structures(p, pcid, la, moment);
+        }
+    }
+
+    /// What `raise_locals` does, where they go.
+    #[inline(always)]
+    fn raise_locals_if(&mut self, go: bool, p: u16, pcid: u16, la: u64, moment: u32)
+        ensures { AreRaised self.old self.new (given go (locals_for p pcid la)) moment }
+    {
+        if go {
+            self.raise_locals(p, pcid, la, moment);
+        }
+    }
+
+    /// What `raise_globals` does, where they go.
+    #[inline(always)]
+    fn raise_globals_if(&mut self, go: bool, p: u16, la: u64, moment: u32)
+        ensures { AreRaised self.old self.new (given go (globals_for p la)) moment }
+    {
+        if go {
+            self.raise_globals(p, la, moment);
+        }
+    }
+
     /// Each key that an invalidation drops may have this moment too. No list of them is made, since
     /// each event that drops something comes here.
     pub(crate) fn raise_for(&mut self, p: u16, invalidation: Invalidation, moment: u32)
@@ -195,12 +226,16 @@ impl Lasts {
     {
         match invalidation {
             Invalidation::Nothing => {}
-            Invalidation::Address { pcid, la, globals } => {
-                self.raise_structures(p, pcid, la, moment);
-                self.raise_locals(p, pcid, la, moment);
-                if globals {
-                    self.raise_globals(p, la, moment);
-                }
+            Invalidation::Address {
+                pcid,
+                la,
+                structures,
+                translations,
+                globals,
+            } => {
+                self.raise_structures_if(structures, p, pcid, la, moment);
+                self.raise_locals_if(translations, p, pcid, la, moment);
+                self.raise_globals_if(globals, p, la, moment);
             }
             Invalidation::Page { pcid, la } => {
                 self.raise(DropKey::StructuresOf { p, pcid }, moment);

@@ -9,10 +9,23 @@ use pg_event::Invalidation;
 #[derive(Clone, Copy)]
 pub(crate) enum Packed {
     Nothing,
-    Address { globals: bool, pcid: u16, la: u64 },
-    Page { pcid: u16, la: u64 },
-    Pcid { pcid: u16 },
-    Everything { globals: bool },
+    Address {
+        structures: bool,
+        translations: bool,
+        globals: bool,
+        pcid: u16,
+        la: u64,
+    },
+    Page {
+        pcid: u16,
+        la: u64,
+    },
+    Pcid {
+        pcid: u16,
+    },
+    Everything {
+        globals: bool,
+    },
 }
 
 /// An invalidation, as the log has it.
@@ -22,7 +35,19 @@ pub(crate) fn pack(invalidation: Invalidation) -> Packed
 {
     match invalidation {
         Invalidation::Nothing => Packed::Nothing,
-        Invalidation::Address { pcid, la, globals } => Packed::Address { globals, pcid, la },
+        Invalidation::Address {
+            pcid,
+            la,
+            structures,
+            translations,
+            globals,
+        } => Packed::Address {
+            structures,
+            translations,
+            globals,
+            pcid,
+            la,
+        },
         Invalidation::Page { pcid, la } => Packed::Page { pcid, la },
         Invalidation::Pcid(pcid) => Packed::Pcid { pcid },
         Invalidation::Everything { globals } => Packed::Everything { globals },
@@ -36,7 +61,19 @@ pub(crate) fn invalidation_of(packed: Packed) -> Invalidation
 {
     match packed {
         Packed::Nothing => Invalidation::Nothing,
-        Packed::Address { globals, pcid, la } => Invalidation::Address { pcid, la, globals },
+        Packed::Address {
+            structures,
+            translations,
+            globals,
+            pcid,
+            la,
+        } => Invalidation::Address {
+            pcid,
+            la,
+            structures,
+            translations,
+            globals,
+        },
         Packed::Page { pcid, la } => Invalidation::Page { pcid, la },
         Packed::Pcid { pcid } => Invalidation::Pcid(pcid),
         Packed::Everything { globals } => Invalidation::Everything { globals },

@@ -23,11 +23,11 @@ pub returns-in-Nothing-clause-ok : goal.returns-in-Nothing-clause-ok
 returns-in-Nothing-clause-ok c =
     let old : Log = record { entries = c.self.inside.log.items; next = c.self.inside.next } in
     rw (← c.self.view_is)
-    (IsNoted-nothing old _ c.args.moment c.args.event.now c.args.before c.in-Nothing.ensures.structures c.in-Nothing.ensures.translations refl refl)
+    (IsNoted-nothing c.args.rules old _ c.args.moment c.args.event.now c.args.before c.in-Nothing.ensures.structures c.in-Nothing.ensures.translations refl refl)
 
 pub returns-in-Nothing-clause-run : goal.returns-in-Nothing-clause-run
-returns-in-Nothing-clause-run c = λ head events stands count read.
-    StandsFor-noted c.args.self.now _ head events c.args.moment c.args.event.now c.args.before stands count read (returns-in-Nothing-clause-ok c)
+returns-in-Nothing-clause-run c = λ head events stands held count read.
+    StandsFor-noted c.args.rules c.args.self.now _ head events c.args.moment c.args.event.now c.args.before stands held count read (returns-in-Nothing-clause-ok c)
 
 pub returns-in_err-push-clause-err : goal.returns-in_err-push-clause-err
 returns-in_err-push-clause-err c =
@@ -39,7 +39,7 @@ returns-in_err-push-clause-err c =
 pub returns-in_err-push-clause-none : goal.returns-in_err-push-clause-none
 returns-in_err-push-clause-none c = λ nothing.
     let none : c.invalidation-invalidation.result ≡ Nothing
-    = DropsNothing-none c.invalidation-invalidation.result c.args.before c.args.event.now c.invalidation-invalidation.ensures.structures c.invalidation-invalidation.ensures.translations nothing in
+    = DropsNothing-none c.args.rules c.invalidation-invalidation.result c.args.before c.args.event.now c.invalidation-invalidation.ensures.some c.invalidation-invalidation.ensures.structures c.invalidation-invalidation.ensures.translations nothing in
     absurd (c.in_default.not-Nothing none)
 
 pub invariant_of-self-2 : goal.invariant_of-self-2
@@ -58,9 +58,9 @@ pub returns-clause-ok : goal.returns-clause-ok
 returns-clause-ok c =
     let old : Log = record { entries = c.self.inside.log.items; next = c.self.inside.next } in
     rw (← c.self.view_is)
-    (IsNoted-pushed old _ c.args.moment c.args.event.now c.args.before c.processor_of-p.result c.invalidation-invalidation.result c.pack.result c.pack.ensures c.processor_of-p.ensures
+    (IsNoted-pushed c.args.rules old _ c.args.moment c.args.event.now c.args.before c.processor_of-p.result c.invalidation-invalidation.result c.pack.result c.pack.ensures c.processor_of-p.ensures
     c.invalidation-invalidation.ensures.structures c.invalidation-invalidation.ensures.translations refl c.in_ok-push.ensures.items)
 
 pub returns-clause-run : goal.returns-clause-run
-returns-clause-run c = λ head events stands count read.
-    StandsFor-noted c.args.self.now _ head events c.args.moment c.args.event.now c.args.before stands count read (returns-clause-ok c)
+returns-clause-run c = λ head events stands held count read.
+    StandsFor-noted c.args.rules c.args.self.now _ head events c.args.moment c.args.event.now c.args.before stands held count read (returns-clause-ok c)

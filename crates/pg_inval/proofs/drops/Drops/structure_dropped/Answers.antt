@@ -1,10 +1,9 @@
 use Rattle.std.proofs.Common.{◌≡◌, not, subst}
 use Rattle.pg_event.specs.declared.keys.StructureKey.{StructureKey}
-use Rattle.pg_event.specs.Witness.{survives}
-use Rattle.pg_inval.specs.Drops.{Structure, must_drop}
+use Rattle.pg_event.specs.Witness.{structure_survives}
 use Rattle.pg_inval.proofs.drops.Drops.structure_dropped.Goals as goal
 
 pub returns-clause-run : goal.returns-clause-run
 returns-clause-run c = λ head events stands.
-    subst (λ (key : StructureKey). c.structure_dropped_counted.result ≡ not (survives head events c.args.p (must_drop (Structure key)) c.args.from c.args.to))
+    subst (λ (key : StructureKey). c.structure_dropped_counted.result ≡ not (structure_survives head events c.args.p key c.args.from c.args.to))
     c.structure_key-key.ensures (c.structure_dropped_counted.ensures.run head events stands)
