@@ -104,16 +104,17 @@ pub event_happened : (l : Listed) (e : Event) → processor_of e < length l.proc
 event_happened l e there =
     let p = processor_of e in
     let m = l.head.cfg.m in
-    let processor = processor_after m e (processor_at l.processors p) in
+    let rules = l.head.cfg.rules in
+    let processor = processor_after l.head.cfg e (processor_at l.processors p) in
     let c : ℕ → Control = λ q. (processor_at l.processors q).control in
     same_states _ _ (value_after l.writes e)
     (part_set (λ s. s.control) l.processors p processor (λ q. controlled m q (c q) e) there refl (λ q other. sym (controlled_other m q (c q) e other)))
-    (part_set (λ s. s.structures) l.processors p processor (λ q. filter (λ x. not (p == q && must_drop_structure (c q) e x.key)) (processor_at l.processors q).structures) there
-    (own (λ x. must_drop_structure (c p) e x.key) p (processor_at l.processors p).structures)
-    (λ q other. foreign (λ x. must_drop_structure (c q) e x.key) p q (processor_at l.processors q).structures other))
-    (part_set (λ s. s.translations) l.processors p processor (λ q. filter (λ x. not (p == q && must_drop_translation (c q) e x.key)) (processor_at l.processors q).translations) there
-    (own (λ x. must_drop_translation (c p) e x.key) p (processor_at l.processors p).translations)
-    (λ q other. foreign (λ x. must_drop_translation (c q) e x.key) p q (processor_at l.processors q).translations other))
+    (part_set (λ s. s.structures) l.processors p processor (λ q. filter (λ x. not (p == q && must_drop_structure rules (c q) e x.key)) (processor_at l.processors q).structures) there
+    (own (λ x. must_drop_structure rules (c p) e x.key) p (processor_at l.processors p).structures)
+    (λ q other. foreign (λ x. must_drop_structure rules (c q) e x.key) p q (processor_at l.processors q).structures other))
+    (part_set (λ s. s.translations) l.processors p processor (λ q. filter (λ x. not (p == q && must_drop_translation rules (c q) e x.key)) (processor_at l.processors q).translations) there
+    (own (λ x. must_drop_translation rules (c p) e x.key) p (processor_at l.processors p).translations)
+    (λ q other. foreign (λ x. must_drop_translation rules (c q) e x.key) p q (processor_at l.processors q).translations other))
 
 started_control : (m : ℕ) (o : Option (ℕ × Bool)) → (processor_or_none (option_map (started_processor m) o)).control ≡ started m o
 started_control m None = refl

@@ -10,3 +10,4 @@ pub mod Refusals
 pub mod Rows
 pub mod Same
 pub mod Taken
+pub mod FewerRules

@@ -3,3 +3,4 @@ pub mod Machine
 pub mod NoRun
 pub mod Refused
 pub mod Stepping
+pub mod FewerRules

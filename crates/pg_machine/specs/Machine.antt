@@ -211,10 +211,14 @@ after_event head s e = record {
   memory = λ a. written a (s.memory a) e;
   control = λ p. controlled head.cfg.m p (s.control p) e;
   structures = λ p.
-      filter (λ x. not (processor_of e == p && must_drop_structure (s.control p) e x.key))
+      filter
+      (λ x. not (processor_of e == p
+      && must_drop_structure head.cfg.rules (s.control p) e x.key))
       (s.structures p);
   translations = λ p.
-      filter (λ x. not (processor_of e == p && must_drop_translation (s.control p) e x.key))
+      filter
+      (λ x. not (processor_of e == p
+      && must_drop_translation head.cfg.rules (s.control p) e x.key))
       (s.translations p);
 }
 

@@ -161,13 +161,15 @@ without_taken by processor = record processor {
 }
 
 -- what the processor of an event has after it
-abbrev pub processor_after : ℕ → Event → ProcessorState → ProcessorState
-processor_after m e processor = record {
-  control = controlled m (processor_of e) processor.control e;
+abbrev pub processor_after : Cfg → Event → ProcessorState → ProcessorState
+processor_after cfg e processor = record {
+  control = controlled cfg.m (processor_of e) processor.control e;
   structures =
-      filter (λ x. not (must_drop_structure processor.control e x.key)) processor.structures;
+      filter (λ x. not (must_drop_structure cfg.rules processor.control e x.key))
+      processor.structures;
   translations =
-      filter (λ x. not (must_drop_translation processor.control e x.key)) processor.translations;
+      filter (λ x. not (must_drop_translation cfg.rules processor.control e x.key))
+      processor.translations;
 }
 
 -- the entry that a fill reads
@@ -306,7 +308,7 @@ writes_after writes e = writes_with writes (change_of e)
 abbrev pub next_event : Listed → Event → Listed
 next_event l e =
     let p = processor_of e in
-    let processor = processor_after l.head.cfg.m e (processor_at l.processors p) in
+    let processor = processor_after l.head.cfg e (processor_at l.processors p) in
     with_processor (record l { writes = writes_after l.writes e }) p processor
 
 -- the lists after a step

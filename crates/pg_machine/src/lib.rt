@@ -11,7 +11,7 @@ mod sought;
 mod step;
 mod stuck;
 
-pub use law::some_record_has_no_run;
+pub use law::{runs_under_fewer_rules, some_record_has_no_run};
 pub use machine::Machine;
 pub use step::{Member, Step, Structure, Translation};
 pub use stuck::Stuck;

@@ -173,10 +173,10 @@ impl Machine {
     fn take_at(&mut self, p: u16, event: &Event)
         requires { p < length self.old.processors }
         ensures { self.new ≡ with_processor self.old p
-            (processor_after self.old.head.cfg.m event.now (processor_at self.old.processors p)) }
+            (processor_after self.old.head.cfg event.now (processor_at self.old.processors p)) }
     {
-        let maxphyaddr = self.cfg().m;
-        self.processors[p as usize].take(maxphyaddr, event);
+        let cfg = self.cfg();
+        self.processors[p as usize].take(cfg, event);
     }
 
     /// What an event does to memory. Flags are set in the word as it is now.

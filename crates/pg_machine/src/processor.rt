@@ -254,13 +254,13 @@ impl Processor {
     }
 
     /// The processor after an event of its own.
-    pub(crate) fn take(&mut self, maxphyaddr: u8, event: &Event)
-        requires width { (12 ≤ maxphyaddr) × (maxphyaddr ≤ 52) }
-        ensures { self.new ≡ processor_after maxphyaddr event.now self.old }
+    pub(crate) fn take(&mut self, cfg: Cfg, event: &Event)
+        requires width { (12 ≤ cfg.m) × (cfg.m ≤ 52) }
+        ensures { self.new ≡ processor_after cfg event.now self.old }
     {
         let control = self.control;
-        self.drop_by(event.invalidation(control));
-        self.control = controlled(maxphyaddr, processor_of(event), control, event);
+        self.drop_by(event.invalidation(cfg.rules, control));
+        self.control = controlled(cfg.m, processor_of(event), control, event);
     }
 }
 
