@@ -3,6 +3,7 @@ use Rattle.std.proofs.Common.{◌≡◌, ℕ, Bool, true, false, cond, ltb, List
 use Rattle.std.specs.Prelude.{Result}
 use Rattle.std.specs.List.{AllByRecursion}
 use Rattle.std.specs.Int.{w32}
+use Rattle.pg_entry.specs.Rules.{all_rules}
 use Rattle.pg_event.specs.declared.refusal.Refusal.TheVariants as refusals
 use Rattle.pg_event.specs.declared.event.Event.{Event}
 use Rattle.pg_event.specs.declared.event.Event.TheVariants.{Write, Access, Assist, MovCr3, Invlpg, Invpcid, MovCr4Pge}
@@ -42,7 +43,7 @@ said bytes x e =
     from_passing (is_between 1 (most_processors b.0)) refusals.HeaderField (processor_at b.0 d.1) _ x e (λ f f_is count e.
     from_passing (is_between 1 65536) refusals.HeaderField (number_at w32 f.1) _ x e (λ g g_is size e.
     from_bind (starts_at c.0 f.0 g.1) _ x e (λ h h_is e.
-    let made : Head = record { version = b.0; cfg = record { flags = record { 0 = d.0 }; m = c.0 }; segment = g.0; processors = h.0 } in
+    let made : Head = record { version = b.0; cfg = record { flags = record { 0 = d.0 }; m = c.0; rules = all_rules }; segment = g.0; processors = h.0 } in
     let is : version_said bytes ≡ Ok b = ok_bind (magic_at bytes) _ _ a_is ∙ b_is in
     subst (λ (y : Head × List ℕ). (rest : List ℕ) × (version_said bytes ≡ Ok (y.0.version, rest))) (ok_is (made, h.1) x e) (b.1, is))))))))
 
@@ -54,7 +55,7 @@ is_old : (bytes : List ℕ) (r : Recorded) → Spells bytes r → is_two (versio
 is_old bytes r spells old =
     let segments : List ℕ = segments_bytes r.head 0 (length r.events) r.events in
     let end : List ℕ = end_bytes (length r.events) in
-    let at : header_at bytes ≡ Ok (r.head, segments ++ end) = ap header_at (spells.1 ∙ append_assoc (header_bytes r.head) segments end) ∙ header_again r.head (segments ++ end) spells.0.head in
+    let at : header_at bytes ≡ Ok (r.head, segments ++ end) = ap header_at (spells.1 ∙ append_assoc (header_bytes r.head) segments end) ∙ header_again r.head (segments ++ end) spells.0.head spells.2 in
     let is = said bytes (r.head, segments ++ end) at in
     one_said r.head.version is.0 (sym (ap is_two is.1) ∙ old)
 

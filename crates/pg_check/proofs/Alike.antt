@@ -17,9 +17,9 @@ use Rattle.pg_event.specs.declared.event.Want.{Want}
 use Rattle.pg_event.specs.declared.control.Control.{Control}
 use Rattle.pg_event.specs.Heads.{Head}
 use Rattle.pg_event.specs.Values.{written, controlled, started, mem_at, control_at}
-use Rattle.pg_event.specs.Invalidation.{structure_key, translation_key, must_drop_structure, must_drop_translation}
+use Rattle.pg_event.specs.Invalidation.{structure_key, translation_key}
 use Rattle.pg_event.specs.Walk.{Reading, readings, below, entry_address, root_of}
-use Rattle.pg_event.specs.Witness.{leads_to, is_in_order, is_one_context, last_or, any_from, takes_out, survives, structures_survive, tables_accessed, walked}
+use Rattle.pg_event.specs.Witness.{leads_to, is_in_order, is_one_context, last_or, any_from, takes_out, survives, structures_survive, tables_accessed, walked, structure_survives, translation_survives}
 use Rattle.pg_inval.specs.Drops.{CacheEntry, Structure, Translation, MayBeCached, IsTableLevel, must_drop}
 use Rattle.pg_inval.specs.Lists.{IsFirstDrop}
 use Rattle.pg_inval.proofs.AnyFrom.{not-not}
@@ -159,7 +159,7 @@ alike_structures n head xs ys p pcid la m look level table rights (w ∷ x ∷ w
     let rest : List Reading = readings m look la (below level) (table_of m value) (joined rights value) (x ∷ ws) in
     ap (λ (b : Bool). b && structures_survive head xs p pcid la rest)
     (alike.drops p (Structure (structure_key pcid level la)) w x up.0 up.1.0 (table_level level (length ws) few))
-    ∙ ap (λ (b : Bool). survives head ys p (λ c e. must_drop_structure c e (structure_key pcid level la)) w x && b)
+    ∙ ap (λ (b : Bool). structure_survives head ys p (structure_key pcid level la) w x && b)
     (alike_structures n head xs ys p pcid la m look (below level) (table_of m value) (joined rights value) (x ∷ ws) alike up.1 (fewer_below level (length ws) few))
 
 alike_context : (n : ℕ) (head : Head) (xs ys : List Event) (p pcid : ℕ) (ws : List ℕ) → AreAlike n head xs ys → AreUpTo n ws →
@@ -209,7 +209,7 @@ pub alike_lasts : (n : ℕ) (head : Head) (xs ys : List Event) (p la : ℕ) (l :
 alike_lasts n head xs ys p la l (Leaf frame shift global_bit) alike read asked paged lasts = (
   lasts.0 ∙ ap (λ (c : Control). global_bit && c.pge) (alike.controls p l.chain.end.moment read),
   let key = translation_key l.chain.pcid shift l.global la in
-      alike_drop (λ a b. not (survives head xs p (λ c e. must_drop_translation c e key) a b)) (λ a b. not (survives head ys p (λ c e. must_drop_translation c e key) a b))
+      alike_drop (λ a b. not (translation_survives head xs p key a b)) (λ a b. not (translation_survives head ys p key a b))
       n l.chain.end.moment l.asked l.dropped (λ a b low high. ap not (alike.drops p (Translation key) a b low high paged)) read asked lasts.1,
 )
 alike_lasts n head xs ys p la l (Table addr) alike read asked paged lasts = tt

@@ -93,7 +93,7 @@ none_before test from to end within none = not-not (any_from test from (to - fro
 
 -- whether the event with a number drops a translation
 abbrev pub drops_at : Head → List Event → ℕ → TranslationKey → ℕ → Bool
-drops_at head events p key j = takes_out p (λ c e. must_drop_translation c e key) (control_at head events p j) (slice_get events j)
+drops_at head events p key j = takes_out p (λ c e. must_drop_translation head.cfg.rules c e key) (control_at head events p j) (slice_get events j)
 
 -- nothing drops it at once
 pub not_yet : (head : Head) (events : List Event) (p : ℕ) (key : TranslationKey) (moment : ℕ) → IsDroppedAt head events p key moment moment None

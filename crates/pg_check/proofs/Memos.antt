@@ -14,8 +14,8 @@ use Rattle.pg_entry.specs.declared.Cfg.{Cfg}
 use Rattle.pg_entry.specs.declared.Kind.{Kind}
 use Rattle.pg_entry.specs.declared.Kind.TheVariants.{Leaf}
 use Rattle.pg_entry.specs.Kinds.{kind_of}
-use Rattle.pg_event.specs.Invalidation.{translation_key, must_drop_translation}
-use Rattle.pg_event.specs.Witness.{survives}
+use Rattle.pg_event.specs.Invalidation.{translation_key}
+use Rattle.pg_event.specs.Witness.{translation_survives}
 use Rattle.pg_chain.specs.declared.steps.Chain.{Chain}
 use Rattle.pg_check.specs.Lasting.{IsLasting, IsWalk, LastsTo}
 use Rattle.pg_check.specs.Remembered.{HasWalk, HaveWalks, IsWithin, IsLeaf, frame_in, walk_in, lasting_to}
@@ -67,7 +67,7 @@ made_slot past n s p page ws walk cfg frame shift global_bit same leaf chain las
 
 -- the walk of a slot lasts on to a number, where nothing drops its translation up to there
 pub lasts_to : (past : Past) (n : ℕ) (s : Slot) (number : ℕ) → HasWalk past n (Some s) → s.dropped ≡ false → (head : Head) (events : List Event) → IsPast past head events →
-    survives head events s.p (λ c e. must_drop_translation c e (translation_key s.pcid s.shift s.global s.page)) s.asked number ≡ true →
+    translation_survives head events s.p (translation_key s.pcid s.shift s.global s.page) s.asked number ≡ true →
     IsWalk head events s.p s.page wants.Leaf s.moments (Ok (lasting_to number s))
 lasts_to past n s number has stays head events h stands =
     let is = has.1 head events h in

@@ -20,9 +20,9 @@ use Rattle.pg_event.specs.declared.keys.TranslationKey.{TranslationKey}
 use Rattle.pg_event.specs.declared.control.Control.{Control}
 use Rattle.pg_event.specs.Heads.{Head}
 use Rattle.pg_event.specs.Values.{mem_at, control_at}
-use Rattle.pg_event.specs.Invalidation.{bits_from, level_shift, structure_key, must_drop_structure}
+use Rattle.pg_event.specs.Invalidation.{bits_from, level_shift, structure_key}
 use Rattle.pg_event.specs.Walk.{Reading, readings, below, entry_address, root_of}
-use Rattle.pg_event.specs.Witness.{leads_to, last_or, survives, structures_survive, is_one_context, tables_accessed, walked}
+use Rattle.pg_event.specs.Witness.{leads_to, last_or, structures_survive, is_one_context, tables_accessed, walked, structure_survives}
 use Rattle.pg_entry.specs.Kinds.{IsPageShift}
 use Rattle.pg_chain.specs.Walked.{chain_of, chain_through, ended}
 use Rattle.pg_check.specs.declared.lasting.Lasting.{Lasting}
@@ -139,8 +139,8 @@ same_survival : (k : ℕ) (head : Head) (events : List Event) (p pcid la : ℕ) 
 same_survival k head events p pcid la [] small coarse = refl
 same_survival k head events p pcid la (r ∷ []) small coarse = refl
 same_survival k head events p pcid la (r ∷ s ∷ rs) small coarse =
-    ap (λ (key : StructureKey). survives head events p (λ c e. must_drop_structure c e key) r.moment s.moment && structures_survive head events p pcid (page_start k la) (s ∷ rs)) (same_structure k pcid la r.level small coarse.0)
-    ∙ ap (λ b. survives head events p (λ c e. must_drop_structure c e (structure_key pcid r.level la)) r.moment s.moment && b) (same_survival k head events p pcid la (s ∷ rs) small coarse.1)
+    ap (λ (key : StructureKey). structure_survives head events p key r.moment s.moment && structures_survive head events p pcid (page_start k la) (s ∷ rs)) (same_structure k pcid la r.level small coarse.0)
+    ∙ ap (λ b. structure_survives head events p (structure_key pcid r.level la) r.moment s.moment && b) (same_survival k head events p pcid la (s ∷ rs) small coarse.1)
 
 same_through : (k : ℕ) (head : Head) (events : List Event) (p la : ℕ) (want : Want) (pcid : ℕ) (ws : List ℕ) (rs : List Reading) → k ≤ 48 → AreCoarse k rs →
     chain_through head events p (page_start k la) want pcid ws rs ≡ chain_through head events p la want pcid ws rs

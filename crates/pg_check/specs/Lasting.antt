@@ -10,9 +10,9 @@ use Rattle.pg_event.specs.declared.event.Reason.{Reason}
 use Rattle.pg_event.specs.declared.event.Want.{Want}
 use Rattle.pg_event.specs.Heads.{Head}
 use Rattle.pg_event.specs.Values.{control_at}
-use Rattle.pg_event.specs.Invalidation.{translation_key, must_drop_translation}
+use Rattle.pg_event.specs.Invalidation.{translation_key}
 use Rattle.pg_event.specs.declared.keys.TranslationKey.{TranslationKey}
-use Rattle.pg_event.specs.Witness.{any_from, survives}
+use Rattle.pg_event.specs.Witness.{any_from, translation_survives}
 use Rattle.pg_inval.specs.Lists.{IsFirstDrop}
 use Rattle.pg_chain.specs.Walked.{chain_of}
 use Rattle.pg_check.specs.declared.lasting.Lasting.{Lasting}
@@ -31,7 +31,7 @@ IsFirstToPass test from to first = IsFirstDrop (λ a b. not (outlives test a b))
 abbrev pub IsDroppedAt : Head → List Event → ℕ → TranslationKey → ℕ → ℕ → Option ℕ → Type 0
 IsDroppedAt head events p key moment to dropped =
     IsFirstDrop
-    (λ a b. not (survives head events p (λ c e. must_drop_translation c e key) a b))
+    (λ a b. not (translation_survives head events p key a b))
     moment to dropped
 
 -- whether the translation that a leaf gives is global and, as far as that was asked, the first

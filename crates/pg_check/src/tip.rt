@@ -10,9 +10,10 @@ ghost use Rattle.pg_event.specs.declared.event.Want.TheVariants.{Leaf};
 ghost use Rattle.pg_event.specs.Form.{processor_of};
 ghost use Rattle.pg_event.specs.Heads.{Head};
 ghost use Rattle.pg_event.specs.Wants.{want_of};
-ghost use Rattle.pg_event.specs.Invalidation.{translation_key, must_drop_translation};
+ghost use Rattle.pg_event.specs.Invalidation.{translation_key};
 ghost use Rattle.pg_event.specs.Values.{control_at};
-ghost use Rattle.pg_event.specs.Witness.{failing_access, failing_event, is_in_order, survives};
+ghost use Rattle.pg_event.specs.Witness.{failing_access, failing_event, is_in_order};
+ghost use Rattle.pg_event.specs.Witness.{translation_survives};
 ghost use Rattle.pg_chain.specs.declared.past.Past.{Past};
 ghost use Rattle.pg_chain.specs.Standing.{InEachRun, IsNext, processor_count};
 ghost use Rattle.pg_chain.specs.Walked.{chain_of};
@@ -44,7 +45,7 @@ fn outlasts(past: &Past, slot: &Slot) -> bool
     ensures run { IsTrue result → let s = slot.now in
         let key = translation_key s.pcid s.shift s.global s.page in
         (to : ℕ) → InEachRun past.now (λ head events.
-        survives head events s.p (λ c e. must_drop_translation c e key) s.asked to ≡ true) }
+        translation_survives head events s.p key s.asked to ≡ true) }
 {
     let key = translation_key(slot.pcid, slot.shift, slot.global, slot.page);
     !slot.dropped && past.translation_outlasts(slot.p, key, slot.asked)

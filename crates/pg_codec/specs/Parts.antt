@@ -3,6 +3,7 @@ use Rattle.std.specs.Prelude.{ℕ, ◌≤◌, ◌<◌, Bool, nat_lt, if◌then�
 use Rattle.std.specs.Prelude.{true, false}
 use Rattle.std.specs.Int.{w32}
 use Rattle.pg_entry.specs.declared.Cfg.{Cfg}
+use Rattle.pg_entry.specs.Rules.{all_rules}
 use Rattle.pg_event.specs.declared.refusal.Refusal.TheVariants as refusals
 use Rattle.pg_event.specs.declared.event.Event.{Event}
 use Rattle.pg_event.specs.declared.version.Version.{Version}
@@ -22,7 +23,7 @@ unfoldable pub cfg_at : List ℕ → Part Cfg
 cfg_at bytes = do
   m ← passing (is_between least_maxphyaddr most_maxphyaddr) refusals.HeaderField (byte_at bytes)
   flags ← passing (λ n. nat_lt n 16) refusals.HeaderField (byte_at m.1)
-  Ok (record { flags = record { 0 = flags.0 }; m = m.0 }, flags.1)
+  Ok (record { flags = record { 0 = flags.0 }; m = m.0; rules = all_rules }, flags.1)
 
 -- a header after its version, up to its processors
 unfoldable pub settings_behind : Version → List ℕ → Part Settings

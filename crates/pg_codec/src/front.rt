@@ -8,7 +8,7 @@ ghost use Rattle.pg_codec.specs.Parts.{version_said, is_two};
 
 use crate::fields::{byte_of, processor_number, u16_of, u32_of, u64_of};
 use crate::settings::Settings;
-use pg_entry::{Cfg, CfgFlags};
+use pg_entry::{Cfg, CfgFlags, Rules};
 use pg_event::{
     LEAST_MAXPHYADDR, MOST_MAXPHYADDR, MOST_SEGMENT, Refusal, Version, most_processors,
 };
@@ -69,6 +69,7 @@ pub fn cfg_of(bytes: &[u8]) -> Result<(Cfg, &[u8]), Refusal>
     let cfg = Cfg {
         flags,
         m: maxphyaddr,
+        rules: Rules::ALL,
     };
     Ok((cfg, rest))
 }

@@ -32,17 +32,17 @@ by_type true pcid matches local others inside f d = f (right_of pcid matches (le
 by_type false pcid matches local others inside f d = refl
 
 pub pages_show : PagesShowTheirDrops
-pages_show page t c (Write p addr value) s m d = absurd cc
-pages_show page t c (Access p flags la (Page answer) moments) s m d = absurd cc
-pages_show page t c (Access p flags la (Fault code) moments) s m d = in_page page la t s m (left_of (translation_matches t la) (eqb t.pcid c.pcid || t.global) d)
-pages_show page t c (Assist p flags la word moments) s m d = absurd cc
-pages_show page t c (MovCr3 p operand) s m d = refl
-pages_show page t c (Invlpg p la) s m d = in_page page la t s m (left_of (translation_matches t la) (eqb t.pcid c.pcid || t.global) d)
-pages_show page t c (Invpcid p kind pcid la) s m d =
+pages_show rules page t c (Write p addr value) s m d = absurd cc
+pages_show rules page t c (Access p flags la (Page answer) moments) s m d = absurd cc
+pages_show rules page t c (Access p flags la (Fault code) moments) s m d = in_page page la t s m (left_of (translation_matches t la) _ d)
+pages_show rules page t c (Assist p flags la word moments) s m d = absurd cc
+pages_show rules page t c (MovCr3 p operand) s m d = refl
+pages_show rules page t c (Invlpg p la) s m d = in_page page la t s m (left_of (translation_matches t la) (eqb t.pcid c.pcid || t.global) d)
+pages_show rules page t c (Invpcid p kind pcid la) s m d =
     by_type (eqb kind 0) (eqb t.pcid pcid) (translation_matches t la) (not t.global)
     (cond (eqb kind 1) (eqb t.pcid pcid && not t.global) (cond (eqb kind 2) true (not t.global)))
     (is_in_page page la) (in_page page la t s m) d
-pages_show page t c (MovCr4Pge p on) s m d = refl
+pages_show rules page t c (MovCr4Pge p on) s m d = refl
 
 -- one more event
 pub user_more : (events : List Event) (page i p : ℕ) (d : Event) → i < length events →

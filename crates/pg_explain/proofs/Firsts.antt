@@ -56,10 +56,10 @@ first_in test (suc n) from to e =
 
 -- the first event that must drop an entry is at the least moment at which it did not survive
 pub first_drop-first : (head : Head) (events : List Event) (p : ℕ) (key : CacheKey) (from to : ℕ) (found : Option ℕ) → found ≡ first_drop head events p key from to →
-    IsFirstDrop (λ a b. not (survives head events p (must_drop key) a b)) from to found
+    IsFirstDrop (λ a b. not (survives head events p (must_drop head.cfg.rules key) a b)) from to found
 first_drop-first head events p key from to found e =
     let test : ℕ → Bool = is_dropped_at head events p key in
-    let gone : ℕ → ℕ → Bool = λ a b. not (survives head events p (must_drop key) a b) in
+    let gone : ℕ → ℕ → Bool = λ a b. not (survives head events p (must_drop head.cfg.rules key) a b) in
     subst (IsFirstDrop gone from to) (sym e)
     (IsFirstDrop-same (windows test) gone from to (first_drop head events p key from to) (λ a b. sym (not-not (windows test a b)))
     (first_in test (to - from) from to refl))

@@ -100,7 +100,7 @@ not_not true = refl
 not_not false = refl
 
 -- an entry survives where no event drops it
-pub survives_from : (head : Head) (events : List Event) (p : ℕ) (key : CacheKey) (from to : ℕ) → not (is_some (first_drop head events p key from to)) ≡ survives head events p (must_drop key) from to
+pub survives_from : (head : Head) (events : List Event) (p : ℕ) (key : CacheKey) (from to : ℕ) → not (is_some (first_drop head events p key from to)) ≡ survives head events p (must_drop head.cfg.rules key) from to
 survives_from head events p key from to = ap not (first_some (is_dropped_at head events p key) from (to - from))
 
 structure_dropped : (level : Level) (o : Option ℕ) (c : Bool) (rest : Option Finding) → reasons_of rest ≡ cond (not c) (Some reasons.StructureDropped) None →
@@ -184,7 +184,7 @@ end_reasons head events c pcid r (kinds.Leaf frame shift global_bit) =
     let rest : Option Finding = leaf_finding head.cfg c.kind r.rights (frame + c.la % 2 ^ shift) c.outcome in
     page_tests r.level (first_drop head events c.p key r.moment c.number) foreign (findings.ForeignPcid (record { moment = r.moment; pcid = pcid }) (tagged head events c.p c.number)) rest refl
     ∙ (ap (λ b. cond (not b) (Some reasons.TranslationDropped) (cond foreign (Some reasons.ForeignPcid) (reasons_of rest))) (survives_from head events c.p key r.moment c.number)
-    ∙ ap (λ o. cond (not (survives head events c.p (must_drop key) r.moment c.number)) (Some reasons.TranslationDropped) (cond foreign (Some reasons.ForeignPcid) o)) (leaf_reasons head.cfg c.kind r.rights (frame + c.la % 2 ^ shift) c.outcome))
+    ∙ ap (λ o. cond (not (survives head events c.p (must_drop head.cfg.rules key) r.moment c.number)) (Some reasons.TranslationDropped) (cond foreign (Some reasons.ForeignPcid) o)) (leaf_reasons head.cfg c.kind r.rights (frame + c.la % 2 ^ shift) c.outcome))
 end_reasons head events c pcid r kinds.Absent = fault_reasons head events c causes.Absent kinds.Absent r c.outcome
 end_reasons head events c pcid r kinds.Reserved = fault_reasons head events c causes.Reserved kinds.Reserved r c.outcome
 end_reasons head events c pcid r (kinds.Table addr) = refl

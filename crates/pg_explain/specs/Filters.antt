@@ -8,6 +8,7 @@ use Rattle.std.specs.Prelude.{◌≡◌, ℕ, ◌+◌, ◌^◌, ◌<◌, Bool, t
 use Rattle.std.specs.Prelude.{nat_le, if◌then◌else◌, List, [], ◌∷◌, ◌++◌, Option, Some, None}
 use Rattle.std.specs.Prelude.{codes, slice_index_or}
 use Rattle.std.specs.List.{list_any}
+use Rattle.pg_entry.specs.declared.Rules.{Rules}
 use Rattle.pg_event.specs.declared.control.Control.{Control}
 use Rattle.pg_event.specs.declared.event.Event.{Event}
 use Rattle.pg_event.specs.declared.event.Event.TheVariants.{Write, Access, Assist, MovCr3, Invlpg}
@@ -100,6 +101,6 @@ AreMarks events page marks =
 -- an event by which a translation of a page by one of 4 KB has to go has to do with the page, if
 -- its processor is one of the page's
 abbrev pub PagesShowTheirDrops : Type 0
-PagesShowTheirDrops = (page : ℕ) (t : TranslationKey) (c : Control) (e : Event) →
-    t.shift ≡ 12 → translation_matches t page ≡ true → must_drop_translation c e t ≡ true →
-    concerns page true e ≡ true
+PagesShowTheirDrops = (rules : Rules) (page : ℕ) (t : TranslationKey) (c : Control)
+    (e : Event) → t.shift ≡ 12 → translation_matches t page ≡ true →
+    must_drop_translation rules c e t ≡ true → concerns page true e ≡ true

@@ -8,10 +8,10 @@ use Rattle.pg_event.specs.declared.event.Event.{Event}
 use Rattle.pg_event.specs.declared.event.Event.TheVariants.{Write, Access, Assist, MovCr3, Invlpg}
 use Rattle.pg_event.specs.declared.event.Event.TheVariants.{Invpcid, MovCr4Pge}
 use Rattle.pg_event.specs.Heads.{Head}
-use Rattle.pg_event.specs.Invalidation.{translation_key, must_drop_translation}
+use Rattle.pg_event.specs.Invalidation.{translation_key}
 use Rattle.pg_event.specs.Values.{control_at}
 use Rattle.pg_event.specs.Walk.{Reading}
-use Rattle.pg_event.specs.Witness.{survives}
+use Rattle.pg_event.specs.Witness.{translation_survives}
 use Rattle.pg_search.specs.declared.last.Last.{Last}
 use Rattle.pg_search.specs.Lasts.{IsEndedBy}
 use Rattle.pg_search.specs.ReachableTables.{first_or}
@@ -20,8 +20,8 @@ use Rattle.pg_explain.specs.Findings.{readings_by, last_of}
 -- a translation of the address survives from one moment up to another
 abbrev pub translation_stands :
     Head → List Event → ℕ → ℕ → ℕ → ℕ → Bool → ℕ → ℕ → Bool
-translation_stands head events p la pcid shift global from to = survives head events p
-    (λ c e. must_drop_translation c e (translation_key pcid shift global la)) from to
+translation_stands head events p la pcid shift global from to =
+    translation_survives head events p (translation_key pcid shift global la) from to
 
 -- the translation that a reading under a PCID makes, where it is of a leaf, survives up to a
 -- number, or this event had to drop it

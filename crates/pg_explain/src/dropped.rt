@@ -6,6 +6,7 @@ ghost use Rattle.pg_inval.specs.Lists.{IsFirstDrop};
 ghost use Rattle.pg_explain.specs.Drops.{must_drop, is_dropped_at, first_drop, IsPageKey};
 
 use pg_check::History;
+use pg_entry::Rules;
 use pg_event::{
     Control, Event, StructureKey, TranslationKey, must_drop_structure, must_drop_translation,
     processor_of,
@@ -18,22 +19,24 @@ pub enum CacheKey {
     Translation(TranslationKey),
 }
 
-fn must_drop(key: CacheKey, control: Control, event: &Event) -> bool
+fn must_drop(rules: Rules, key: CacheKey, control: Control, event: &Event) -> bool
     requires { IsPageKey key }
-    ensures { result ≡ must_drop key control event.now }
+    ensures { result ≡ must_drop rules key control event.now }
 {
     match key {
-        CacheKey::Structure(structure) => must_drop_structure(control, event, structure),
-        CacheKey::Translation(translation) => must_drop_translation(control, event, translation),
+        CacheKey::Structure(structure) => must_drop_structure(rules, control, event, structure),
+        CacheKey::Translation(translation) => {
+            must_drop_translation(rules, control, event, translation)
+        }
     }
 }
 
 /// Whether an event is of processor `p`, and takes an entry out.
-fn takes_out(p: u16, key: CacheKey, control: Control, event: &Event) -> bool
+fn takes_out(rules: Rules, p: u16, key: CacheKey, control: Control, event: &Event) -> bool
     requires { IsPageKey key }
-    ensures { result ≡ takes_out p (must_drop key) control (Some event.now) }
+    ensures { result ≡ takes_out p (must_drop rules key) control (Some event.now) }
 {
-    processor_of(event) == p && must_drop(key, control, event)
+    processor_of(event) == p && must_drop(rules, key, control, event)
 }
 
 /// Whether the event with this number is of processor `p`, and takes an entry out.
@@ -43,7 +46,10 @@ fn is_dropped_at(history: &History, p: u16, key: CacheKey, number: u32) -> bool
     ensures { result ≡ is_dropped_at history.now.head history.now.events p key number }
 {
     match history.events().get(number as usize) {
-        Some(event) => takes_out(p, key, history.control_at(p, number), event),
+        Some(event) => {
+            let rules = history.header().cfg.rules;
+            takes_out(rules, p, key, history.control_at(p, number), event)
+        }
         None => false,
     }
 }
@@ -61,7 +67,8 @@ pub(crate) fn first_drop(
     requires key { IsPageKey key }
     ensures value { result ≡ first_drop history.now.head history.now.events p key from to }
     ensures first { IsFirstDrop
-        (λ a b. not (survives history.now.head history.now.events p (must_drop key) a b))
+        (λ a b. not (survives history.now.head history.now.events p
+        (must_drop history.now.head.cfg.rules key) a b))
         from to result }
 {
     for number in from..to {

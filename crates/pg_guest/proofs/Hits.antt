@@ -17,9 +17,9 @@ use Rattle.pg_event.specs.declared.event.Want.TheVariants as wants
 use Rattle.pg_event.specs.declared.keys.TranslationKey.{TranslationKey}
 use Rattle.pg_event.specs.Heads.{Head, judges_accessed}
 use Rattle.pg_event.specs.Values.{control_at}
-use Rattle.pg_event.specs.Invalidation.{bits_from, translation_key, must_drop_translation}
+use Rattle.pg_event.specs.Invalidation.{bits_from, translation_key}
 use Rattle.pg_event.specs.Wants.{want_of, is_wanted, uses_last}
-use Rattle.pg_event.specs.Witness.{asked_by, survives, failing_end, failing_leaf, failing_access, is_done_write}
+use Rattle.pg_event.specs.Witness.{asked_by, failing_end, failing_leaf, failing_access, is_done_write, translation_survives}
 use Rattle.pg_shadow.specs.declared.entries.KeptLeaf.{KeptLeaf}
 use Rattle.pg_shadow.specs.Caches.{Caches, same_space}
 use Rattle.pg_shadow.specs.Find.{is_usable, IsHit}
@@ -109,7 +109,7 @@ leaf_witnesses head es p la kind s shift global leaf all kept usable =
       wanted = ap (λ want. is_wanted want (kind_of head.cfg at.level value)) (outcome_wants_leaf head.cfg kind leaf.rights address) ∙ ap (is_wanted wants.Leaf) h.leaf;
       ends = record {
         ends = ap (failing_end head es c pcid (reading_at es la at w)) h.leaf
-            ∙ passed (survives head es p (λ d e. must_drop_translation d e (translation_key pcid shift g la)) w n) reasons.TranslationDropped _
+            ∙ passed (translation_survives head es p (translation_key pcid shift g la) w n) reasons.TranslationDropped _
             (sym (survives_alike head es p w n cur pcid shift number global g h.space_is) ∙ h.stands)
             (not_barred (not ((control_at head es p n).pcid == pcid) && not g) reasons.ForeignPcid _
             (ap (λ q. not (q == pcid) && not g) now ∙ not_foreign cur pcid shift number global g h.space_is)

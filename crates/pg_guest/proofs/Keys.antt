@@ -11,7 +11,7 @@ use Rattle.pg_event.specs.declared.keys.StructureKey.{StructureKey}
 use Rattle.pg_event.specs.declared.keys.TranslationKey.{TranslationKey}
 use Rattle.pg_event.specs.Heads.{Head}
 use Rattle.pg_event.specs.Invalidation.{bits_from, level_shift, must_drop_translation}
-use Rattle.pg_event.specs.Witness.{survives}
+use Rattle.pg_event.specs.Witness.{survives, translation_survives}
 use Rattle.pg_shadow.specs.Caches.{same_structure, same_space, same_translation}
 use Rattle.pg_shadow.proofs.Levels.{level_same}
 
@@ -54,7 +54,7 @@ drops_alike c e a b shift number false false same = ap (λ (q : ℕ). must_drop_
 
 -- translations of one page in one space survive alike
 pub survives_alike : (head : Head) (es : List Event) (p w n : ℕ) (a b shift number : ℕ) (g h : Bool) → same_space (key_of a shift number g) (key_of b shift number h) ≡ true →
-    survives head es p (λ c e. must_drop_translation c e (key_of a shift number g)) w n ≡ survives head es p (λ c e. must_drop_translation c e (key_of b shift number h)) w n
+    translation_survives head es p (key_of a shift number g) w n ≡ translation_survives head es p (key_of b shift number h) w n
 survives_alike head es p w n a b shift number g h same =
     let one : Control → Event → Bool = λ c e. must_drop_translation c e (key_of a shift number g) in
     let other : Control → Event → Bool = λ c e. must_drop_translation c e (key_of b shift number h) in

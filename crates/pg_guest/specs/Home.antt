@@ -16,12 +16,11 @@ use Rattle.pg_event.specs.declared.keys.TranslationKey.{TranslationKey}
 use Rattle.pg_event.specs.Form.{access_kind}
 use Rattle.pg_event.specs.Heads.{Head, may_cache}
 use Rattle.pg_event.specs.Invalidation.{structure_key, translation_key, structure_matches}
-use Rattle.pg_event.specs.Invalidation.{translation_matches, must_drop_structure}
-use Rattle.pg_event.specs.Invalidation.{must_drop_translation}
+use Rattle.pg_event.specs.Invalidation.{translation_matches}
 use Rattle.pg_event.specs.Values.{mem_at, control_at}
 use Rattle.pg_event.specs.Walk.{below, entry_address, root_of}
 use Rattle.pg_event.specs.Wants.{is_table}
-use Rattle.pg_event.specs.Witness.{survives}
+use Rattle.pg_event.specs.Witness.{structure_survives, translation_survives}
 use Rattle.pg_guest.specs.declared.instruction.Instruction.{Instruction}
 use Rattle.pg_guest.specs.declared.instruction.Instruction.TheVariants.{Write, Access, MovCr3}
 use Rattle.pg_guest.specs.declared.instruction.Instruction.TheVariants.{Invlpg, Invpcid}
@@ -66,8 +65,7 @@ pub record IsLink (head : Head) (events : List Event) (p la pcid : ℕ) (at : Wa
   pub usable : may_cache head.version (word_at events la at w) ≡ true
   pub own : (control_at head events p w).pcid ≡ pcid
   pub order : w ≤ x
-  pub stands : survives head events p
-      (λ c e. must_drop_structure c e (structure_key pcid at.level la)) w x ≡ true
+  pub stands : structure_survives head events p (structure_key pcid at.level la) w x ≡ true
 
 -- a walk from a position, by moment w and then the others, reads tables that stand up to the next
 -- moment, and ends so at the last
@@ -109,8 +107,7 @@ pub record EndsInLeaf (head : Head) (events : List Event) (p la pcid : ℕ) (key
   pub space_is : same_space key (translation_key pcid key.shift
       (global_bit && (control_at head events p w).pge) la) ≡ true
   pub order : w ≤ length events
-  pub stands : survives head events p
-      (λ c e. must_drop_translation c e key) w (length events) ≡ true
+  pub stands : translation_survives head events p key w (length events) ≡ true
 
 -- a table is sound: some address has its key, and for each that has it the table is what a walk by
 -- its moments read

@@ -4,7 +4,7 @@ ghost use Rattle.pg_codec.specs.Writing.{FitVersion};
 
 use crate::written::{Written, events_of};
 use pg_codec::{ReadError, RecordReader, Source, Watched, write_end, write_header, write_segment};
-use pg_entry::{Cfg, CfgFlags};
+use pg_entry::{Cfg, CfgFlags, Rules};
 use pg_event::{Event, Header, Outcome, Version, most_processors, processor_of};
 use std::alloc::{AllocError, Global};
 use std::io::{self, ErrorKind, Read};
@@ -109,6 +109,7 @@ fn header_of(alloc: Global, case: &Case) -> Result<Header, AllocError> {
         cfg: Cfg {
             flags: CfgFlags(3),
             m: 40,
+            rules: Rules::ALL,
         },
         segment: 16,
         processors: Vec::from_slice(alloc, case.processors)?,

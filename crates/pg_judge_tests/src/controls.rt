@@ -1,7 +1,7 @@
 ghost use Rattle.std.specs.Prelude.{◌≡◌, ◌∷◌, [], true, IfOk};
 ghost use Rattle.pg_event.specs.Spelling.{IsHead};
 
-use pg_entry::{Cfg, CfgFlags};
+use pg_entry::{Cfg, CfgFlags, Rules};
 use pg_event::{Event, Header, Version};
 use pg_state::Controls;
 use std::alloc::{AllocError, Global};
@@ -18,6 +18,7 @@ fn one_processor(alloc: Global) -> Result<Header, AllocError>
         cfg: Cfg {
             flags: CfgFlags(3),
             m: 40,
+            rules: Rules::ALL,
         },
         segment: 16,
         processors,

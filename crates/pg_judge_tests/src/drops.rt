@@ -1,5 +1,5 @@
 use crate::written::{Written, event_of};
-use pg_entry::Level;
+use pg_entry::{Level, Rules};
 use pg_event::{Control, Event, Outcome, Window, translation_key};
 use pg_inval::Drops;
 use pg_timeline::Probes;
@@ -136,7 +136,7 @@ const BEFORE: Control = Control {
 /// One event noted as number 5.
 fn noted(alloc: Global, event: &Event) -> Result<Drops, AllocError> {
     let mut drops = Drops::new(alloc);
-    drops.note(5, event, BEFORE)?;
+    drops.note(Rules::ALL, 5, event, BEFORE)?;
     Ok(drops)
 }
 
@@ -209,7 +209,7 @@ fn drops_are_listed(rt: HostRuntime) -> Result<(), Fail> {
 fn note_later(drops: &mut Drops, moment: u32, written: &Written) -> Result<(), Fail> {
     let event = event_of(written).ok_or("moments")?;
     if drops.next() <= moment as u64 {
-        drops.note_later(moment, &event, BEFORE)?;
+        drops.note_later(Rules::ALL, moment, &event, BEFORE)?;
     }
     Ok(())
 }

@@ -2,7 +2,7 @@
 //! constant can make them otherwise.
 
 use pg_check::History;
-use pg_entry::{Cfg, CfgFlags};
+use pg_entry::{Cfg, CfgFlags, Rules};
 use pg_event::{Event, Header, Moments, Outcome, Version, well_formed};
 use std::alloc::{AllocError, Global};
 use std::test::Fail;
@@ -108,6 +108,7 @@ fn header_of(
         cfg: Cfg {
             flags: CfgFlags(3),
             m: 40,
+            rules: Rules::ALL,
         },
         segment,
         processors: vec![in alloc; (0x1001, true); processors]?,

@@ -1,6 +1,6 @@
 use crate::orders::{OLD_READ, OWN_INVLPG, REMAP, Spanned, push, run_of};
 use crate::written::{READ, Written};
-use pg_entry::{Cfg, CfgFlags};
+use pg_entry::{Cfg, CfgFlags, Rules};
 use pg_event::{Header, Outcome, Selection, Version};
 use pg_spanned::SpannedRun;
 use pg_spanned_text::{cause_text, spanned_lines};
@@ -199,6 +199,7 @@ fn seen_and_not(alloc: Global) -> Result<SpannedRun, Fail> {
         cfg: Cfg {
             flags: CfgFlags(1),
             m: 40,
+            rules: Rules::ALL,
         },
         segment: 1024,
         processors: vec![in alloc; (0x40_0000, false); 3]?,

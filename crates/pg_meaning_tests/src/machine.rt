@@ -1,4 +1,4 @@
-use pg_entry::{Cfg, CfgFlags, Level, Rights};
+use pg_entry::{Cfg, CfgFlags, Level, Rights, Rules};
 use pg_event::{Event, Header, Malformed, Moments, Outcome, Parent, Version, structure_key};
 use pg_machine::{Machine, Member, Step, Structure, Stuck};
 use std::alloc::{AllocError, AllocGlobal, Global};
@@ -14,6 +14,7 @@ fn one_processor(alloc: Global, version: Version) -> Result<Machine, AllocError>
         cfg: Cfg {
             flags: CfgFlags(3),
             m: 40,
+            rules: Rules::ALL,
         },
         segment: 16,
         processors: vec![in alloc; (0x1001, true)]?,

@@ -2,7 +2,7 @@
 //! make them otherwise.
 
 use pg_check::History;
-use pg_entry::{Cfg, CfgFlags};
+use pg_entry::{Cfg, CfgFlags, Rules};
 use pg_event::{Event, Header, Moments, Outcome, Version, well_formed};
 use std::alloc::{AllocError, Global};
 use std::test::Fail;
@@ -119,6 +119,7 @@ pub(crate) fn header_of(
         cfg: Cfg {
             flags: CfgFlags(3),
             m: 40,
+            rules: Rules::ALL,
         },
         segment: 16,
         processors: vec![in alloc; (0x1001, true); processors]?,

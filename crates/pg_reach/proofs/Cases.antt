@@ -23,10 +23,10 @@ use Rattle.pg_event.specs.Form.{broken_rule}
 use Rattle.pg_event.specs.Heads.{Head}
 use Rattle.pg_event.specs.Spelling.{Recorded}
 use Rattle.pg_event.specs.Values.{mem_at, control_at}
-use Rattle.pg_event.specs.Invalidation.{translation_key, must_drop_translation}
+use Rattle.pg_event.specs.Invalidation.{translation_key}
 use Rattle.pg_event.specs.Walk.{Reading, readings, below, entry_address}
 use Rattle.pg_event.specs.Wants.{want_of, is_wanted, is_table, uses_last}
-use Rattle.pg_event.specs.Witness.{last_or, survives, leads_to, is_one_context, failing_fault, failing_end, failing_access, failing_assist, claim_of, update_of}
+use Rattle.pg_event.specs.Witness.{last_or, leads_to, is_one_context, failing_fault, failing_end, failing_access, failing_assist, claim_of, update_of, translation_survives}
 use Rattle.pg_run_of.specs.Plan.{root_at}
 use Rattle.pg_run_of.proofs.Standing.{seen, given}
 use Rattle.pg_run_of.proofs.Accesses.{guard_none, bar_none, wants_leaf, access_inside, assist_inside, claim_holds, update_holds}
@@ -102,7 +102,7 @@ ends_by_kind r v flags outcome own ws q now at alike (kinds.Leaf frame shift g) 
     let global : Bool = g && (control_at r.head r.events v.p q.moment).pge in
     let size : IsPageShift shift = subst IsPaged is (kind_paged r.head.cfg q.level q.value) in
     let want : uses_last (want_of outcome) ≡ true = ap uses_last (wants_leaf outcome frame shift g wanted) in
-    let kept = guard_none (survives r.head r.events v.p (λ d e. must_drop_translation d e (translation_key pcid shift global v.la)) q.moment v.number) _ _ h in
+    let kept = guard_none (translation_survives r.head r.events v.p (translation_key pcid shift global v.la) q.moment v.number) _ _ h in
     let used = bar_none (not ((control_at r.head r.events v.p v.number).pcid == pcid) && not global) _ _ kept.1 in
     let lasts : translation_up_to r (under v pcid) shift global (last_moment ws) ≡ true = ap (λ w. translation_up_to r (under v pcid) shift global w) (sym at) ∙ kept.0 in
     elim (cases_Bool global) as (λ _. EndsSo r v (Access v.p flags v.la outcome own) ws) [

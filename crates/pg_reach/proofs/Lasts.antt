@@ -30,13 +30,13 @@ survives_later head all p test from later to low high h =
     (later_by head all p test later (to - later) (λ j above lt. each_stays head all p test from to j h (omega (arith, low, above)) (omega (arith, e, lt))))
 
 pub lasts_now : (r : Recorded) (v : Walker) (level : Level) (w : ℕ) → structure_lasts r v level w w ≡ true
-lasts_now r v level w = survives_none r.head r.events v.p (λ c e. must_drop_structure c e (structure_key v.pcid level v.la)) w
+lasts_now r v level w = survives_none r.head r.events v.p (λ c e. must_drop_structure r.head.cfg.rules c e (structure_key v.pcid level v.la)) w
 
 pub lasts_within : (r : Recorded) (v : Walker) (level : Level) (from to more : ℕ) → to ≤ more → structure_lasts r v level from more ≡ true → structure_lasts r v level from to ≡ true
-lasts_within r v level from to more low h = survives_within r.head r.events v.p (λ c e. must_drop_structure c e (structure_key v.pcid level v.la)) from to more low h
+lasts_within r v level from to more low h = survives_within r.head r.events v.p (λ c e. must_drop_structure r.head.cfg.rules c e (structure_key v.pcid level v.la)) from to more low h
 
 pub lasts_from : (r : Recorded) (v : Walker) (level : Level) (from later to : ℕ) → from ≤ later → later ≤ to → structure_lasts r v level from to ≡ true → structure_lasts r v level later to ≡ true
-lasts_from r v level from later to low high h = survives_later r.head r.events v.p (λ c e. must_drop_structure c e (structure_key v.pcid level v.la)) from later to low high h
+lasts_from r v level from later to low high h = survives_later r.head r.events v.p (λ c e. must_drop_structure r.head.cfg.rules c e (structure_key v.pcid level v.la)) from later to low high h
 
 -- what does not survive from a moment does not from one before it
 pub not_before : (head : Head) (all : List Event) (p : ℕ) (test : Control → Event → Bool) (w later to : ℕ) → w ≤ later → later ≤ to → survives head all p test later to ≡ false → survives head all p test w to ≡ false

@@ -5,6 +5,7 @@ use Rattle.std.proofs.lemmas.Bool.{not-true}
 use Rattle.pg_entry.specs.declared.Level.{Level}
 use Rattle.pg_entry.specs.declared.Kind.TheVariants as kinds
 use Rattle.pg_entry.specs.Permission.{joined}
+use Rattle.pg_entry.specs.declared.Rules.{Rules}
 use Rattle.pg_event.specs.declared.claim.Claim.{Claim}
 use Rattle.pg_event.specs.declared.control.Control.{Control}
 use Rattle.pg_event.specs.declared.event.Event.{Event}
@@ -17,7 +18,7 @@ use Rattle.pg_event.specs.Heads.{Head}
 use Rattle.pg_event.specs.Form.{processor_of}
 use Rattle.pg_event.specs.Values.{mem_at, loaded, controlled, control_at}
 use Rattle.pg_event.specs.Invalidation.{translation_key, must_drop_translation, xor}
-use Rattle.pg_event.specs.Witness.{survives, takes_out, failing_leaf, failing_end}
+use Rattle.pg_event.specs.Witness.{survives, takes_out, failing_leaf, failing_end, translation_survives}
 use Rattle.pg_run_of.proofs.Standing.{seen}
 use Rattle.pg_run_of.proofs.Accesses.{guard_none}
 use Rattle.pg_run_of.proofs.Chains.{reading_at, pass}
@@ -41,17 +42,17 @@ set_pge : (b on : Bool) (c : Control) → (b && xor on c.pge) ≡ false → (con
 set_pge true on c h = unchanged on c.pge h
 set_pge false on c h = refl
 
-leaves_pge : (m p : ℕ) (c : Control) (e : Event) (key : TranslationKey) → (processor_of e == p && must_drop_translation c e key) ≡ false → (controlled m p c e).pge ≡ c.pge
-leaves_pge m p c (Write q addr value) key h = refl
-leaves_pge m p c (Access q flags la outcome ws) key h = refl
-leaves_pge m p c (Assist q flags la word ws) key h = refl
-leaves_pge m p c (MovCr3 q operand) key h = either_pge (q == p) (loaded m operand c.pge) c refl
-leaves_pge m p c (Invlpg q la) key h = refl
-leaves_pge m p c (Invpcid q kind pcid la) key h = refl
-leaves_pge m p c (MovCr4Pge q on) key h = set_pge (q == p) on c h
+leaves_pge : (rules : Rules) (m p : ℕ) (c : Control) (e : Event) (key : TranslationKey) → (processor_of e == p && must_drop_translation rules c e key) ≡ false → (controlled m p c e).pge ≡ c.pge
+leaves_pge rules m p c (Write q addr value) key h = refl
+leaves_pge rules m p c (Access q flags la outcome ws) key h = refl
+leaves_pge rules m p c (Assist q flags la word ws) key h = refl
+leaves_pge rules m p c (MovCr3 q operand) key h = either_pge (q == p) (loaded m operand c.pge) c refl
+leaves_pge rules m p c (Invlpg q la) key h = refl
+leaves_pge rules m p c (Invpcid q kind pcid la) key h = refl
+leaves_pge rules m p c (MovCr4Pge q on) key h = set_pge (q == p) on c h
 
 -- PGE is the same from a moment on up to one to which a translation survives
-same_by : (head : Head) (events : List Event) (p : ℕ) (key : TranslationKey) (w n : ℕ) → w + n ≤ length events → ((j : ℕ) → w ≤ j → j < w + n → stays head events p (λ c e. must_drop_translation c e key) j ≡ true) →
+same_by : (head : Head) (events : List Event) (p : ℕ) (key : TranslationKey) (w n : ℕ) → w + n ≤ length events → ((j : ℕ) → w ≤ j → j < w + n → stays head events p (λ c e. must_drop_translation head.cfg.rules c e key) j ≡ true) →
     (control_at head events p (w + n)).pge ≡ (control_at head events p w).pge
 same_by head events p key w zero low h = let e : w + 0 ≡ w = omega arith in ap (λ k. (control_at head events p k).pge) e
 same_by head events p key w (suc n) low h =
@@ -59,9 +60,9 @@ same_by head events p key w (suc n) low h =
     let next : j + 1 ≡ w + suc n = omega arith in
     let here : j < length events = omega (arith, low) in
     let at = slice_get-within events j here in
-    let stay : (processor_of at.0 == p && must_drop_translation (control_at head events p j) at.0 key) ≡ false =
-    ap (takes_out p (λ c e. must_drop_translation c e key) (control_at head events p j)) (sym at.1) ∙ not-true _ (h j (omega arith) (omega arith)) in
-    ap (λ k. (control_at head events p k).pge) (sym next) ∙ ap (λ (c : Control). c.pge) (next_control head events p j at.0 at.1) ∙ leaves_pge head.cfg.m p (control_at head events p j) at.0 key stay
+    let stay : (processor_of at.0 == p && must_drop_translation head.cfg.rules (control_at head events p j) at.0 key) ≡ false =
+    ap (takes_out p (λ c e. must_drop_translation head.cfg.rules c e key) (control_at head events p j)) (sym at.1) ∙ not-true _ (h j (omega arith) (omega arith)) in
+    ap (λ k. (control_at head events p k).pge) (sym next) ∙ ap (λ (c : Control). c.pge) (next_control head events p j at.0 at.1) ∙ leaves_pge head.cfg.rules head.cfg.m p (control_at head events p j) at.0 key stay
     ∙ same_by head events p key w n (omega (arith, low)) (λ k above lt. h k above (omega (arith, lt)))
   where
     slice_get-within : (xs : List Event) (i : ℕ) → i < length xs → (e : Event) × (slice_get xs i ≡ Some e)
@@ -69,12 +70,12 @@ same_by head events p key w (suc n) low h =
     slice_get-within (x ∷ xs) zero lt = (x, refl)
     slice_get-within (x ∷ xs) (suc i) lt = slice_get-within xs i (omega (arith, lt))
 
-pub same_pge : (head : Head) (events : List Event) (p : ℕ) (key : TranslationKey) (w later to : ℕ) → w ≤ later → later ≤ to → to ≤ length events → survives head events p (λ c e. must_drop_translation c e key) w to ≡ true →
+pub same_pge : (head : Head) (events : List Event) (p : ℕ) (key : TranslationKey) (w later to : ℕ) → w ≤ later → later ≤ to → to ≤ length events → translation_survives head events p key w to ≡ true →
     (control_at head events p later).pge ≡ (control_at head events p w).pge
 same_pge head events p key w later to low high within h =
     let e : w + (later - w) ≡ later = omega (arith, low) in
     ap (λ k. (control_at head events p k).pge) (sym e)
-    ∙ same_by head events p key w (later - w) (omega (arith, low, high, within)) (λ j above lt. each_stays head events p (λ c e. must_drop_translation c e key) w to j h above (omega (arith, lt, low, high)))
+    ∙ same_by head events p key w (later - w) (omega (arith, low, high, within)) (λ j above lt. each_stays head events p (λ c e. must_drop_translation head.cfg.rules c e key) w to j h above (omega (arith, lt, low, high)))
 
 -- the end of an access, read at a later moment at which the entry is the same
 
@@ -84,7 +85,7 @@ pub leaf_later : (head : Head) (events : List Event) (c : Claim) (pcid : ℕ) (a
 leaf_later head events c pcid at to w later frame shift g low high within same h =
     let pge : Bool → TranslationKey = λ b. translation_key pcid shift (g && b) c.la in
     let key : TranslationKey = pge (control_at head events c.p w).pge in
-    let drop : TranslationKey → Control → Event → Bool = λ k d e. must_drop_translation d e k in
+    let drop : TranslationKey → Control → Event → Bool = λ k d e. must_drop_translation head.cfg.rules d e k in
     let kept = guard_none (survives head events c.p (drop key) w c.number) _ _ h in
     let pges : (control_at head events c.p later).pge ≡ (control_at head events c.p w).pge = same_pge head events c.p key w later c.number low high within kept.0 in
     let lasts : survives head events c.p (drop key) later c.number ≡ true = survives_later head events c.p (drop key) w later c.number low high kept.0 in

@@ -83,7 +83,7 @@ pub end_last : (r : Recorded) (v : Walker) (flags : ℕ) (outcome : Outcome) (ow
     (j ≤ n) × (failing_end r.head r.events (claim_of n v.p flags v.la outcome) v.pcid (reading_at r.events v.la at to m) k ≡ None)
 end_last r v flags outcome own at to m j n (kinds.Leaf frame shift g) low high wanted last h =
     let global : Bool = g && (control_at r.head r.events v.p m).pge in
-    let test : Control → Event → Bool = λ d e. must_drop_translation d e (translation_key v.pcid shift global v.la) in
+    let test : Control → Event → Bool = λ d e. must_drop_translation r.head.cfg.rules d e (translation_key v.pcid shift global v.la) in
     let most = last.0 (ap uses_last (wants_leaf outcome frame shift g wanted)) in
     let kept = guard_none (survives r.head r.events v.p test m j) _ _ h in
     let used = bar_none (not ((control_at r.head r.events v.p j).pcid == v.pcid) && not global) _ _ kept.1 in
@@ -111,7 +111,7 @@ use_leaf : (r : Recorded) (v : Walker) (e : Event) (frame shift : ℕ) (bit : Bo
     ((j : ℕ) → m ≤ j → j ≤ v.number → j ≤ end → IsUnder r v j ⊎ ((bit && (control_at r.head r.events v.p m).pge) ≡ true) → j ≤ n) → v.number < 2 ^ 32 → IsLastUse r v e (kinds.Leaf frame shift bit) m n
 use_leaf r v e frame shift bit m n end want order low ends may most small =
     let global : Bool = bit && (control_at r.head r.events v.p m).pge in
-    let test : Control → Event → Bool = λ d e. must_drop_translation d e (translation_key v.pcid shift global v.la) in (
+    let test : Control → Event → Bool = λ d e. must_drop_translation r.head.cfg.rules d e (translation_key v.pcid shift global v.la) in (
       λ on. ((survives_within r.head r.events v.p test m n end low ends.lasts, may), λ j from high used. most j from high (ends.most j (omega (arith, high, small)) used.0) used.1),
       λ off. absurd (apart want off),
     )

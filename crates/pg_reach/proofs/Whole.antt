@@ -30,7 +30,7 @@ use Rattle.pg_event.specs.Invalidation.{translation_key, must_drop_translation}
 use Rattle.pg_event.specs.declared.keys.TranslationKey.{TranslationKey}
 use Rattle.pg_event.specs.declared.event.Reason.{Reason}
 use Rattle.pg_entry.specs.Permission.{joined}
-use Rattle.pg_event.specs.Witness.{last_or, survives, failing_leaf, failing_fault, failing_end, is_updated, failing_event, failing_access, failing_assist, claim_of, update_of}
+use Rattle.pg_event.specs.Witness.{last_or, failing_leaf, failing_fault, failing_end, is_updated, failing_event, failing_access, failing_assist, claim_of, update_of, translation_survives}
 use Rattle.pg_run_of.specs.Plan.{root_at}
 use Rattle.pg_run_of.proofs.Standing.{seen, given}
 use Rattle.pg_run_of.proofs.Accesses.{guard_none, bar_none, claim_holds, update_holds}
@@ -142,12 +142,12 @@ end_later head events c pcid at to w m low within under same (kinds.Leaf frame s
           let is : m ≡ max m c.number = omega (arith, lt) in
           let global : ℕ → Bool = λ k. g && (control_at head events c.p k).pge in
           let key : ℕ → TranslationKey = λ k. translation_key pcid shift (global k) c.la in
-          let kept = guard_none (survives head events c.p (λ d e. must_drop_translation d e (key w)) w c.number) _ _ h in
+          let kept = guard_none (translation_survives head events c.p (key w) w c.number) _ _ h in
           let used = bar_none (not ((control_at head events c.p c.number).pcid == pcid) && not (global w)) _ _ kept.1 in
           let leaf : ℕ → Option Reason = λ value. failing_leaf head.cfg c.kind (joined to.rights value) (frame + c.la % 2 ^ shift) c.outcome in
           let answer : leaf (seen (mem_at events) c.la at to m) ≡ None = ap leaf same ∙ used.1 in
           let now : failing_end head events (record c { number = m }) pcid (reading_at events c.la at to m) (kinds.Leaf frame shift g) ≡ None =
-          pass (survives head events c.p (λ d e. must_drop_translation d e (key m)) m m) _ _ (survives_none head events c.p (λ d e. must_drop_translation d e (key m)) m)
+          pass (translation_survives head events c.p (key m) m m) _ _ (survives_none head events c.p (λ d e. must_drop_translation head.cfg.rules d e (key m)) m)
           (pass_own ((control_at head events c.p m).pcid == pcid) (global m) _ _ (eq-eqb _ _ under) answer) in
           subst (λ k. failing_end head events (record c { number = k }) pcid (reading_at events c.la at to m) (kinds.Leaf frame shift g) ≡ None) is now
       | inr le ↦

@@ -3,8 +3,8 @@ use Rattle.std.specs.Prelude.{◌≡◌, ℕ, ◌<◌, ◌≤◌, Bool, false}
 use Rattle.pg_entry.specs.declared.Level.{Level}
 use Rattle.pg_entry.specs.declared.Level.TheVariants.{Four, Three, Two, One}
 use Rattle.pg_event.specs.Spelling.{Recorded}
-use Rattle.pg_event.specs.Invalidation.{translation_key, must_drop_translation}
-use Rattle.pg_event.specs.Witness.{survives}
+use Rattle.pg_event.specs.Invalidation.{translation_key}
+use Rattle.pg_event.specs.Witness.{translation_survives}
 use Rattle.pg_reach.specs.declared.walker.Walker.{Walker}
 use Rattle.pg_reach.specs.declared.since.Bounds.{Bounds}
 use Rattle.pg_reach.specs.Reaching.{structure_lasts}
@@ -20,8 +20,9 @@ structure_up_to r v level to from = structure_lasts r v level from to
 
 -- a translation of the address survives from a moment up to the number of the event (4.10.4.1)
 abbrev pub translation_up_to : Recorded → Walker → ℕ → Bool → ℕ → Bool
-translation_up_to r v shift global from = survives r.head r.events v.p
-    (λ c e. must_drop_translation c e (translation_key v.pcid shift global v.la)) from v.number
+translation_up_to r v shift global from =
+    translation_survives r.head r.events v.p (translation_key v.pcid shift global v.la)
+    from v.number
 
 -- the bound of a level
 abbrev pub bound_of : Bounds → Level → ℕ

@@ -9,10 +9,10 @@ use Rattle.pg_event.specs.declared.control.Control.{Control}
 use Rattle.pg_event.specs.declared.walk.Parent.{Parent}
 use Rattle.pg_event.specs.Spelling.{Recorded}
 use Rattle.pg_event.specs.Values.{control_at}
-use Rattle.pg_event.specs.Invalidation.{structure_key, must_drop_structure}
+use Rattle.pg_event.specs.Invalidation.{structure_key}
 use Rattle.pg_event.specs.Walk.{below, root_of}
 use Rattle.pg_event.specs.Wants.{is_table}
-use Rattle.pg_event.specs.Witness.{survives}
+use Rattle.pg_event.specs.Witness.{structure_survives}
 use Rattle.pg_machine.specs.Machine.{may_cache}
 use Rattle.pg_timeline.specs.declared.timeline.Span.{Span}
 use Rattle.pg_search.specs.Freshness.{is_as_fresh}
@@ -30,8 +30,8 @@ entry_of r v level table w = entry_at r.events v.la w level table
 
 -- the structure entry that a level gives survives from one moment up to another (4.10.4.1)
 abbrev pub structure_lasts : Recorded → Walker → Level → ℕ → ℕ → Bool
-structure_lasts r v level from to = survives r.head r.events v.p
-    (λ c e. must_drop_structure c e (structure_key v.pcid level v.la)) from to
+structure_lasts r v level from to =
+    structure_survives r.head r.events v.p (structure_key v.pcid level v.la) from to
 
 -- what is said of the last moment, from one up to another, at which a walk may read
 abbrev pub IsLastRead : Recorded → Walker → ℕ → ℕ → Option ℕ → Type 0

@@ -8,9 +8,9 @@ use Rattle.pg_entry.specs.Kinds.{kind_of}
 use Rattle.pg_event.specs.declared.event.Event.{Event}
 use Rattle.pg_event.specs.Spelling.{Recorded}
 use Rattle.pg_event.specs.Values.{control_at}
-use Rattle.pg_event.specs.Invalidation.{translation_key, must_drop_translation}
+use Rattle.pg_event.specs.Invalidation.{translation_key}
 use Rattle.pg_event.specs.Wants.{is_wanted, uses_last}
-use Rattle.pg_event.specs.Witness.{survives, failing_event}
+use Rattle.pg_event.specs.Witness.{failing_event, translation_survives}
 use Rattle.pg_search.specs.Law.{AreWitness, with_moments}
 use Rattle.pg_reach.specs.declared.walker.Walker.{Walker}
 use Rattle.pg_reach.specs.declared.view.Piece.{Piece}
@@ -21,8 +21,8 @@ use Rattle.pg_reach.specs.Asking.{want_by, pcid_of}
 
 -- a translation of the address survives from one moment up to another (4.10.4.1)
 abbrev pub translation_lasts : Recorded → Walker → ℕ → Bool → ℕ → ℕ → Bool
-translation_lasts r v shift global from to = survives r.head r.events v.p
-    (λ c e. must_drop_translation c e (translation_key v.pcid shift global v.la)) from to
+translation_lasts r v shift global from to =
+    translation_survives r.head r.events v.p (translation_key v.pcid shift global v.la) from to
 
 -- a number is no later than the one that was found
 abbrev pub IsUpTo : Option ℕ → ℕ → Type 0

@@ -1,5 +1,5 @@
 use crate::written::script_of;
-use pg_entry::{Cfg, CfgFlags};
+use pg_entry::{Cfg, CfgFlags, Rules};
 use pg_event::{Header, Version};
 use pg_guest::{Instruction, Script, ScriptRefusal};
 use std::alloc::{AllocError, AllocGlobal, Global};
@@ -156,6 +156,7 @@ const SPELLED: [Spelled; 4] = [
 const CFG: Cfg = Cfg {
     flags: CfgFlags(3),
     m: 40,
+    rules: Rules::ALL,
 };
 
 fn is_headed(header: &Header, spelled: &Spelled) -> bool {

@@ -1,7 +1,7 @@
 ghost use Rattle.std.specs.Prelude.{◌≡◌, ◌∷◌, [], true, IfOk, length};
 ghost use Rattle.pg_event.specs.Spelling.{IsHead};
 
-use pg_entry::{AccessKind, Cfg, CfgFlags, Level, Op, Rights};
+use pg_entry::{AccessKind, Cfg, CfgFlags, Level, Op, Rights, Rules};
 use pg_event::{Event, Header, Moments, Version};
 use pg_shadow::{Found, KeptLeaf, KeptTable, Shadow};
 use pg_timeline::Probes;
@@ -36,6 +36,7 @@ fn header(alloc: Global, version: Version) -> Result<Header, AllocError>
         cfg: Cfg {
             flags: CfgFlags(3),
             m: 40,
+            rules: Rules::ALL,
         },
         segment: 16,
         processors,

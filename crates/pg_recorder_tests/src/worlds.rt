@@ -1,5 +1,5 @@
 use crate::written::{Written, moments_of, receipt_of};
-use pg_entry::{AccessKind, Cfg, CfgFlags, Level, Op, Rights};
+use pg_entry::{AccessKind, Cfg, CfgFlags, Level, Op, Rights, Rules};
 use pg_event::{Event, Header, Outcome, Version};
 use pg_world::{LevelRead, Receipt, Walk, World, WorldError};
 use std::alloc::{AllocError, AllocGlobal, Global};
@@ -15,6 +15,7 @@ fn one_processor(alloc: Global, version: Version, segment: u32) -> Result<Header
         cfg: Cfg {
             flags: CfgFlags(3),
             m: 40,
+            rules: Rules::ALL,
         },
         segment,
         processors,

@@ -60,7 +60,7 @@ and_true true b h e = e
 and_true false b h e = absurd (cc)
 
 module _ (s : Spanned) (edges : List Edge) (p la c ended later : ℕ) (x : Event) (k l : Known) (there : slice_get s.events c ≡ Some x) (mine : processor_of x ≡ p)
-    (control : l.control ≡ controlled s.head.cfg.m p k.control x) (left : IsLeft la x k l) (more : HasEnded s c ended later) where
+    (control : l.control ≡ controlled s.head.cfg.m p k.control x) (left : IsLeft s.head.cfg.rules la x k l) (more : HasEnded s c ended later) where
   own_c : IsOwn s.events p c
   own_c = own_at s.events p c x there mine
 
@@ -87,22 +87,24 @@ module _ (s : Spanned) (edges : List Edge) (p la c ended later : ℕ) (x : Event
         before_less order w c j place differs (here.come j own (omega (arith, lt)));
   }
 
-  after_own : (head : Head) (st : State) (e : Event) → head.cfg.m ≡ s.head.cfg.m → IsKnown st p la k → processor_of e ≡ p →
-      ((m q : ℕ) (d : Control) → controlled m q d e ≡ controlled m q d x) → ((d : Control) (y : StructureKey) → must_drop_structure d e y ≡ must_drop_structure d x y) →
-      ((y : Translation) → must_drop_translation k.control e y.key ≡ must_drop_translation k.control x y.key) → IsKnown (after_event head st e) p la l
-  after_own head st e m known own controls structures translations = record {
+  after_own : (head : Head) (st : State) (e : Event) → head.cfg.m ≡ s.head.cfg.m → head.cfg.rules ≡ s.head.cfg.rules → IsKnown st p la k → processor_of e ≡ p →
+      ((m q : ℕ) (d : Control) → controlled m q d e ≡ controlled m q d x) → ((d : Control) (y : StructureKey) → must_drop_structure s.head.cfg.rules d e y ≡ must_drop_structure s.head.cfg.rules d x y) →
+      ((y : Translation) → must_drop_translation s.head.cfg.rules k.control e y.key ≡ must_drop_translation s.head.cfg.rules k.control x y.key) → IsKnown (after_event head st e) p la l
+  after_own head st e m rules known own controls structures translations = record {
     control = controls head.cfg.m p (st.control p) ∙ (ap (λ d. controlled head.cfg.m p d x) known.control ∙ (ap (λ n. controlled n p k.control x) m ∙ sym control));
     tables = λ up pcid from high h.
-        let kept = in_filtered (λ (y : Structure). not (processor_of e == p && must_drop_structure (st.control p) e y.key)) (entry_of pcid up la from) (st.structures p) h in
-        let stays : must_drop_structure (st.control p) e (structure_key pcid up la) ≡ false = and_true _ _ (eq-eqb (processor_of e) p own) (not-true _ kept.1) in
+        let kept = in_filtered (λ (y : Structure). not (processor_of e == p && must_drop_structure head.cfg.rules (st.control p) e y.key)) (entry_of pcid up la from) (st.structures p) h in
+        let stays : must_drop_structure s.head.cfg.rules (st.control p) e (structure_key pcid up la) ≡ false =
+        ap (λ r. must_drop_structure r (st.control p) e (structure_key pcid up la)) (sym rules) ∙ and_true _ _ (eq-eqb (processor_of e) p own) (not-true _ kept.1) in
         left.tables up pcid from high
-        (sym (structures k.control (structure_key pcid up la)) ∙ (ap (λ d. must_drop_structure d e (structure_key pcid up la)) (sym known.control) ∙ stays))
+        (sym (structures k.control (structure_key pcid up la)) ∙ (ap (λ d. must_drop_structure s.head.cfg.rules d e (structure_key pcid up la)) (sym known.control) ∙ stays))
         (known.tables up pcid from high kept.0);
     translations = λ y h matches.
-        let kept = in_filtered (λ (y : Translation). not (processor_of e == p && must_drop_translation (st.control p) e y.key)) y (st.translations p) h in
-        let stays : must_drop_translation (st.control p) e y.key ≡ false = and_true _ _ (eq-eqb (processor_of e) p own) (not-true _ kept.1) in
+        let kept = in_filtered (λ (y : Translation). not (processor_of e == p && must_drop_translation head.cfg.rules (st.control p) e y.key)) y (st.translations p) h in
+        let stays : must_drop_translation s.head.cfg.rules (st.control p) e y.key ≡ false =
+        ap (λ r. must_drop_translation r (st.control p) e y.key) (sym rules) ∙ and_true _ _ (eq-eqb (processor_of e) p own) (not-true _ kept.1) in
         left.translations y
-        (sym (translations y) ∙ (ap (λ d. must_drop_translation d e y.key) (sym known.control) ∙ stays))
+        (sym (translations y) ∙ (ap (λ d. must_drop_translation s.head.cfg.rules d e y.key) (sym known.control) ∙ stays))
         (known.translations y kept.0 matches);
   }
 
@@ -126,10 +128,10 @@ module _ (s : Spanned) (edges : List Edge) (p la c ended later : ℕ) (x : Event
       let event : at.event ≡ x = some_is at.event x (sym at.there ∙ (ap (slice_get s.events) this ∙ there)) in
       let t : IsThere s p la order past ended k = covers order past is keeps came.0 (front_c order w is place here) in
       record {
-        known = after_own s.head (state_after s.head past) e refl t.known entered
+        known = after_own s.head (state_after s.head past) e refl refl t.known entered
             (λ m q d. controlled_same e at.event at.same m q d ∙ ap (controlled m q d) event)
-            (λ d y. structure_same e at.event at.same d y ∙ ap (λ z. must_drop_structure d z y) event)
-            (λ y. translation_same e at.event at.same k.control y.key ∙ ap (λ z. must_drop_translation k.control z y.key) event);
+            (λ d y. structure_same e at.event at.same s.head.cfg.rules d y ∙ ap (λ z. must_drop_structure s.head.cfg.rules d z y) event)
+            (λ y. translation_same e at.event at.same s.head.cfg.rules k.control y.key ∙ ap (λ z. must_drop_translation s.head.cfg.rules k.control z y.key) event);
         come = λ j lt. before_more order w j (elim (more j lt) [
           | inl low ↦ t.come j low
           | inr must ↦ front_next s order is w j c place must

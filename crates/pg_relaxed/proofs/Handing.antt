@@ -25,7 +25,7 @@ has_ended s i ended later within is j lt = elim (cases_lt j ended) [
 -- over an event of the processor
 pub hands_on : (s : Spanned) (la : ℕ) (f : Known) (slot : Slot) → IsFilled s slot la f → (later : ℕ) (x : Event) (k l : Known) →
     slice_get s.events slot.next ≡ Some x → processor_of x ≡ slot.p → slot.next < length s.events →
-    Enters s slot.edges.now slot.p la slot.next slot.ended k → Grows k f → IsLeft la x f l → l.control ≡ controlled s.head.cfg.m (processor_of x) f.control x →
+    Enters s slot.edges.now slot.p la slot.next slot.ended k → Grows k f → IsLeft s.head.cfg.rules la x f l → l.control ≡ controlled s.head.cfg.m (processor_of x) f.control x →
     later ≡ max slot.ended (ended_before s slot.next) → Enters s slot.edges.now slot.p la (slot.next + 1) later l
 hands_on s la f slot filled later x k l there mine within enters grows left control is =
     let c : ℕ = slot.next in

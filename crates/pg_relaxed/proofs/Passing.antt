@@ -7,6 +7,7 @@ use Rattle.pg_entry.specs.declared.Level.{Level}
 use Rattle.pg_entry.specs.declared.Level.TheVariants.{Four, Three, Two, One}
 use Rattle.pg_entry.specs.Kinds.{kind_of}
 use Rattle.pg_entry.specs.Permission.{joined}
+use Rattle.pg_entry.specs.declared.Rules.{Rules}
 use Rattle.pg_event.specs.declared.control.Control.{Control}
 use Rattle.pg_event.specs.declared.event.Event.{Event}
 use Rattle.pg_event.specs.declared.version.Version.{Version}
@@ -31,19 +32,19 @@ in_filter test x (y ∷ ys) (inr h) e =
       | inr f ↦ rw f (in_filter test x ys h e)
     ]
 
-stays_below : (c : Control) (e : Event) (la : ℕ) (up : Level) (pcid : ℕ) (from : Parent) → (up ≡ One → ⊥) → must_drop_structure c e (structure_key pcid up la) ≡ false →
-    may_stay c e la (table_below up pcid from) ≡ true
-stays_below c e la Four pcid from high h = ap not h
-stays_below c e la Three pcid from high h = ap not h
-stays_below c e la Two pcid from high h = ap not h
-stays_below c e la One pcid from high h = absurd (high refl)
+stays_below : (rules : Rules) (c : Control) (e : Event) (la : ℕ) (up : Level) (pcid : ℕ) (from : Parent) → (up ≡ One → ⊥) → must_drop_structure rules c e (structure_key pcid up la) ≡ false →
+    may_stay rules c e la (table_below up pcid from) ≡ true
+stays_below rules c e la Four pcid from high h = ap not h
+stays_below rules c e la Three pcid from high h = ap not h
+stays_below rules c e la Two pcid from high h = ap not h
+stays_below rules c e la One pcid from high h = absurd (high refl)
 
-pub is_left : (la : ℕ) (e : Event) (k l : Known) → l.tables ≡ filter (λ t. may_stay k.control e la t) k.tables → l.translations ≡ filter (λ x. not (must_drop_translation k.control e x.key)) k.translations →
-    IsLeft la e k l
-is_left la e k l tables translations = record {
+pub is_left : (rules : Rules) (la : ℕ) (e : Event) (k l : Known) → l.tables ≡ filter (λ t. may_stay rules k.control e la t) k.tables → l.translations ≡ filter (λ x. not (must_drop_translation rules k.control e x.key)) k.translations →
+    IsLeft rules la e k l
+is_left rules la e k l tables translations = record {
   tables = λ up pcid from high h i. subst (IsIn (table_below up pcid from)) (sym tables)
-      (in_filter (λ t. may_stay k.control e la t) (table_below up pcid from) k.tables i (stays_below k.control e la up pcid from high h));
-  translations = λ x h i. subst (IsIn x) (sym translations) (in_filter (λ y. not (must_drop_translation k.control e y.key)) x k.translations i (ap not h));
+      (in_filter (λ t. may_stay rules k.control e la t) (table_below up pcid from) k.tables i (stays_below rules k.control e la up pcid from high h));
+  translations = λ x h i. subst (IsIn x) (sym translations) (in_filter (λ y. not (must_drop_translation rules k.control e y.key)) x k.translations i (ap not h));
 }
 
 pub extends_refl : (k : Known) → Extends k k

@@ -1,5 +1,6 @@
 -- What an event does is told without its moments.
 use Rattle.std.proofs.Common.{◌≡◌, ℕ, refl, ap, sym, ◌∙◌}
+use Rattle.pg_entry.specs.declared.Rules.{Rules}
 use Rattle.pg_event.specs.declared.control.Control.{Control}
 use Rattle.pg_event.specs.declared.event.Event.{Event}
 use Rattle.pg_event.specs.declared.event.Event.TheVariants.{Write, Access, Assist, MovCr3, Invlpg, Invpcid, MovCr4Pge}
@@ -38,25 +39,25 @@ processor_bare (Invpcid q kind pcid la) = refl
 processor_bare (MovCr4Pge q on) = refl
 processor_bare (Assist q flags la word ws) = refl
 
-structure_bare : (x : StructureKey) (c : Control) (e : Event) → must_drop_structure c (without_moments e) x ≡ must_drop_structure c e x
-structure_bare x c (Access q flags la (Page page) ws) = refl
-structure_bare x c (Access q flags la (Fault code) ws) = refl
-structure_bare x c (Write q addr value) = refl
-structure_bare x c (MovCr3 q operand) = refl
-structure_bare x c (Invlpg q la) = refl
-structure_bare x c (Invpcid q kind pcid la) = refl
-structure_bare x c (MovCr4Pge q on) = refl
-structure_bare x c (Assist q flags la word ws) = refl
+structure_bare : (rules : Rules) (x : StructureKey) (c : Control) (e : Event) → must_drop_structure rules c (without_moments e) x ≡ must_drop_structure rules c e x
+structure_bare rules x c (Access q flags la (Page page) ws) = refl
+structure_bare rules x c (Access q flags la (Fault code) ws) = refl
+structure_bare rules x c (Write q addr value) = refl
+structure_bare rules x c (MovCr3 q operand) = refl
+structure_bare rules x c (Invlpg q la) = refl
+structure_bare rules x c (Invpcid q kind pcid la) = refl
+structure_bare rules x c (MovCr4Pge q on) = refl
+structure_bare rules x c (Assist q flags la word ws) = refl
 
-translation_bare : (x : TranslationKey) (c : Control) (e : Event) → must_drop_translation c (without_moments e) x ≡ must_drop_translation c e x
-translation_bare x c (Access q flags la (Page page) ws) = refl
-translation_bare x c (Access q flags la (Fault code) ws) = refl
-translation_bare x c (Write q addr value) = refl
-translation_bare x c (MovCr3 q operand) = refl
-translation_bare x c (Invlpg q la) = refl
-translation_bare x c (Invpcid q kind pcid la) = refl
-translation_bare x c (MovCr4Pge q on) = refl
-translation_bare x c (Assist q flags la word ws) = refl
+translation_bare : (rules : Rules) (x : TranslationKey) (c : Control) (e : Event) → must_drop_translation rules c (without_moments e) x ≡ must_drop_translation rules c e x
+translation_bare rules x c (Access q flags la (Page page) ws) = refl
+translation_bare rules x c (Access q flags la (Fault code) ws) = refl
+translation_bare rules x c (Write q addr value) = refl
+translation_bare rules x c (MovCr3 q operand) = refl
+translation_bare rules x c (Invlpg q la) = refl
+translation_bare rules x c (Invpcid q kind pcid la) = refl
+translation_bare rules x c (MovCr4Pge q on) = refl
+translation_bare rules x c (Assist q flags la word ws) = refl
 
 module _ (e x : Event) (same : without_moments e ≡ without_moments x) where
   pub written_same : (a v : ℕ) → written a v e ≡ written a v x
@@ -68,8 +69,8 @@ module _ (e x : Event) (same : without_moments e ≡ without_moments x) where
   pub processor_same : processor_of e ≡ processor_of x
   processor_same = sym (processor_bare e) ∙ (ap processor_of same ∙ processor_bare x)
 
-  pub structure_same : (c : Control) (k : StructureKey) → must_drop_structure c e k ≡ must_drop_structure c x k
-  structure_same c k = sym (structure_bare k c e) ∙ (ap (λ y. must_drop_structure c y k) same ∙ structure_bare k c x)
+  pub structure_same : (rules : Rules) (c : Control) (k : StructureKey) → must_drop_structure rules c e k ≡ must_drop_structure rules c x k
+  structure_same rules c k = sym (structure_bare rules k c e) ∙ (ap (λ y. must_drop_structure rules c y k) same ∙ structure_bare rules k c x)
 
-  pub translation_same : (c : Control) (k : TranslationKey) → must_drop_translation c e k ≡ must_drop_translation c x k
-  translation_same c k = sym (translation_bare k c e) ∙ (ap (λ y. must_drop_translation c y k) same ∙ translation_bare k c x)
+  pub translation_same : (rules : Rules) (c : Control) (k : TranslationKey) → must_drop_translation rules c e k ≡ must_drop_translation rules c x k
+  translation_same rules c k = sym (translation_bare rules k c e) ∙ (ap (λ y. must_drop_translation rules c y k) same ∙ translation_bare rules k c x)

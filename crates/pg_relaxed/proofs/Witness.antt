@@ -25,7 +25,7 @@ at_start s edges p la = (refl, refl)
 -- over an event of the processor
 pub on : (s : Spanned) (la : ℕ) (f : Known) (slot : Slot) → IsFilled s slot la f → (later : ℕ) (x : Event) (k l : Known) →
     slice_get s.events slot.next ≡ Some x → processor_of x ≡ slot.p →
-    MayHaveCached s slot.edges.now slot.p la slot.next slot.ended k → Grows k f → IsLeft la x f l → l.control ≡ controlled s.head.cfg.m (processor_of x) f.control x →
+    MayHaveCached s slot.edges.now slot.p la slot.next slot.ended k → Grows k f → IsLeft s.head.cfg.rules la x f l → l.control ≡ controlled s.head.cfg.m (processor_of x) f.control x →
     later ≡ max slot.ended (ended_before s slot.next) → MayHaveCached s slot.edges.now slot.p la (slot.next + 1) later l
 unfolding MayHaveCached
 on s la f slot filled later x k l there mine may grows left control is =

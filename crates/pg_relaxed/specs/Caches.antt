@@ -19,6 +19,7 @@ use Rattle.pg_event.specs.declared.event.Want.{Want}
 use Rattle.pg_event.specs.declared.event.Want.TheVariants as wants
 use Rattle.pg_event.specs.declared.walk.Parent.{Parent}
 use Rattle.pg_entry.specs.declared.Cfg.{Cfg}
+use Rattle.pg_entry.specs.declared.Rules.{Rules}
 use Rattle.pg_event.specs.Form.{access_kind, says_dirty}
 use Rattle.pg_event.specs.Heads.{Head, may_cache}
 use Rattle.pg_event.specs.declared.version.Version.{Version}
@@ -93,21 +94,24 @@ known_of c = record {
 
 -- an event of the processor need not drop the structure entry that gave a table: a root stays only
 -- as the control registers say
-abbrev pub may_stay_at : Control → Event → ℕ → ℕ → Level → Bool
-may_stay_at c e la pcid Four = false
-may_stay_at c e la pcid Three = not (must_drop_structure c e (structure_key pcid Four la))
-may_stay_at c e la pcid Two = not (must_drop_structure c e (structure_key pcid Three la))
-may_stay_at c e la pcid One = not (must_drop_structure c e (structure_key pcid Two la))
+abbrev pub may_stay_at : Rules → Control → Event → ℕ → ℕ → Level → Bool
+may_stay_at rules c e la pcid Four = false
+may_stay_at rules c e la pcid Three =
+    not (must_drop_structure rules c e (structure_key pcid Four la))
+may_stay_at rules c e la pcid Two =
+    not (must_drop_structure rules c e (structure_key pcid Three la))
+may_stay_at rules c e la pcid One =
+    not (must_drop_structure rules c e (structure_key pcid Two la))
 
-abbrev pub may_stay : Control → Event → ℕ → Table → Bool
-may_stay c e la t = may_stay_at c e la t.pcid t.level
+abbrev pub may_stay : Rules → Control → Event → ℕ → Table → Bool
+may_stay rules c e la t = may_stay_at rules c e la t.pcid t.level
 
--- what an event of the processor need not drop stays known (4.10.4.1)
-pub record IsLeft (la : ℕ) (e : Event) (k l : Known) : Type 0 where
+-- what an event of the processor need not drop under these rules stays known (4.10.4.1)
+pub record IsLeft (rules : Rules) (la : ℕ) (e : Event) (k l : Known) : Type 0 where
   pub tables : (up : Level) (pcid : ℕ) (from : Parent) → (up ≡ One → ⊥) →
-      must_drop_structure k.control e (structure_key pcid up la) ≡ false →
+      must_drop_structure rules k.control e (structure_key pcid up la) ≡ false →
       IsIn (table_below up pcid from) k.tables → IsIn (table_below up pcid from) l.tables
-  pub translations : (x : Translation) → must_drop_translation k.control e x.key ≡ false →
+  pub translations : (x : Translation) → must_drop_translation rules k.control e x.key ≡ false →
       IsIn x k.translations → IsIn x l.translations
 
 -- no known table has an entry of this kind that gives the outcome (4.7)

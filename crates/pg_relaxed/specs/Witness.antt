@@ -33,7 +33,7 @@ pub record Passes (s : Spanned) (la : ℕ) (slot : Slot) (k : Known) (ended : �
   pub filled : Known
   pub grows : Grows k filled
   pub fills : IsFilled s slot la filled
-  pub left : IsLeft la event filled l
+  pub left : IsLeft s.head.cfg.rules la event filled l
   pub control : l.control ≡ controlled s.head.cfg.m (processor_of event) filled.control event
   pub come : ended ≡ max slot.ended (ended_before s slot.next)
 

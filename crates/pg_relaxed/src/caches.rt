@@ -13,7 +13,7 @@ use crate::held::{HeldTable, HeldTranslation};
 use crate::slot::Slot;
 use crate::table::Table;
 use crate::words::Words;
-use pg_entry::{Cfg, Entry, Kind, Level, classify, combine, dirty, table_of};
+use pg_entry::{Cfg, Entry, Kind, Level, Rules, classify, combine, dirty, table_of};
 use pg_event::{
     Control, Event, Parent, Version, below, controlled, entry_address, may_cache,
     must_drop_structure, must_drop_translation, processor_of, root_of, structure_key,
@@ -68,17 +68,23 @@ fn has_translation(translations: &[HeldTranslation], translation: &Translation) 
     false
 }
 
-/// Whether an event of the processor need not drop a table, whose control registers before it are
-/// `control` (Intel SDM, vol. 3, 4.10.4.1).
-fn may_stay(control: Control, event: &Event, la: u64, table: Table) -> bool
-    ensures { result ≡ may_stay control event.now la table }
+/// Whether an event of the processor need not drop a table. The processor is held to `rules`, and
+/// its control registers before the event are `control` (Intel SDM, vol. 3, 4.10.4.1).
+fn may_stay(rules: Rules, control: Control, event: &Event, la: u64, table: Table) -> bool
+    ensures { result ≡ may_stay rules control event.now la table }
 {
     let pcid = table.pcid;
     match table.level {
         Level::Four => false,
-        Level::Three => !must_drop_structure(control, event, structure_key(pcid, Level::Four, la)),
-        Level::Two => !must_drop_structure(control, event, structure_key(pcid, Level::Three, la)),
-        Level::One => !must_drop_structure(control, event, structure_key(pcid, Level::Two, la)),
+        Level::Three => {
+            !must_drop_structure(rules, control, event, structure_key(pcid, Level::Four, la))
+        }
+        Level::Two => {
+            !must_drop_structure(rules, control, event, structure_key(pcid, Level::Three, la))
+        }
+        Level::One => {
+            !must_drop_structure(rules, control, event, structure_key(pcid, Level::Two, la))
+        }
     }
 }
 
@@ -249,16 +255,17 @@ impl Caches {
     }
 
     /// What an event of the processor leaves.
-    pub(crate) fn pass(&mut self, maxphyaddr: u8, la: u64, event: &Event)
-        requires width { (36 ≤ maxphyaddr) × (maxphyaddr ≤ 52) }
-        ensures left { IsLeft la event.now (known_of self.old) (known_of self.new) }
+    pub(crate) fn pass(&mut self, cfg: Cfg, la: u64, event: &Event)
+        requires width { (36 ≤ cfg.m) × (cfg.m ≤ 52) }
+        ensures left { IsLeft cfg.rules la event.now (known_of self.old) (known_of self.new) }
         ensures control { self.new.control
-            ≡ controlled maxphyaddr (processor_of event.now) self.old.control event.now }
+            ≡ controlled cfg.m (processor_of event.now) self.old.control event.now }
     {
         let control = self.control;
         self.tables
-            .retain(|held| may_stay(control, event, la, held.get()));
-        self.translations.retain(|held| !must_drop_translation(control, event, held.get().key));
-        self.control = controlled(maxphyaddr, processor_of(event), control, event);
+            .retain(|held| may_stay(cfg.rules, control, event, la, held.get()));
+        self.translations
+            .retain(|held| !must_drop_translation(cfg.rules, control, event, held.get().key));
+        self.control = controlled(cfg.m, processor_of(event), control, event);
     }
 }

@@ -280,7 +280,7 @@ fn refute_walk(
             if !caches.fill(run, words, slot, la)? {
                 return Ok(false);
             }
-            caches.pass(header.cfg.m, la, event);
+            caches.pass(header.cfg, la, event);
             ended = ended.max(ended_before(run, next));
         }
     }

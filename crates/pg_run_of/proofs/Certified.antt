@@ -25,11 +25,11 @@ use Rattle.pg_event.specs.declared.claim.Update.{Update}
 use Rattle.pg_event.specs.Heads.{Head, judges_accessed}
 use Rattle.pg_event.specs.Form.{access_kind, says_dirty, is_canonical, is_word, breaks_assist, broken_rule}
 use Rattle.pg_event.specs.Values.{mem_at, control_at}
-use Rattle.pg_event.specs.Invalidation.{bits_from, translation_key, translation_matches, must_drop_translation}
+use Rattle.pg_event.specs.Invalidation.{bits_from, translation_key, translation_matches}
 use Rattle.pg_event.specs.declared.keys.TranslationKey.{TranslationKey}
 use Rattle.pg_event.specs.Walk.{Reading, entry_address}
 use Rattle.pg_event.specs.Wants.{is_wanted, may_dirty, uses_last, want_of}
-use Rattle.pg_event.specs.Witness.{claim_of, update_of, survives, failing_leaf, failing_fault, failing_end, is_done_write, failing_event}
+use Rattle.pg_event.specs.Witness.{claim_of, update_of, failing_leaf, failing_fault, failing_end, is_done_write, failing_event, translation_survives}
 use Rattle.pg_event.specs.declared.walk.Parent.{Parent}
 use Rattle.pg_machine.specs.Machine.{State, Answers, Faults, HasOutcome, MayAssist, MayCome, entry_now}
 use Rattle.pg_run_of.specs.Converse.{without_moments, HasMoments}
@@ -90,8 +90,8 @@ leaf_certified head all s w few now sound p flags la outcome moments want h =
     let same : made ≡ t.key =
     ap (λ g. translation_key t.key.pcid t.key.shift g la) k.global
     ∙ ap (λ v. let y : TranslationKey = record { pcid = t.key.pcid; shift = t.key.shift; number = v; global = t.key.global } in y) (sym number) in
-    let survived : survives head all p (λ d e. must_drop_translation d e made) k.last w ≡ true =
-    ap (λ (y : TranslationKey). survives head all p (λ d e. must_drop_translation d e y) k.last w) same ∙ k.kept in
+    let survived : translation_survives head all p made k.last w ≡ true =
+    ap (λ (y : TranslationKey). translation_survives head all p y k.last w) same ∙ k.kept in
     let used : ((control_at head all p w).pcid == t.key.pcid || (k.g && pge)) ≡ true =
     ap (λ (d : Control). d.pcid == t.key.pcid || (k.g && pge)) (now.control p) ∙ ap (λ b. (s.control p).pcid == t.key.pcid || b) k.global ∙ parts.1 in
     let right : failing_leaf head.cfg access (joined k.from.rights value) (t.frame + la % 2 ^ t.key.shift) outcome ≡ None =

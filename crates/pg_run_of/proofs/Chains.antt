@@ -19,10 +19,10 @@ use Rattle.pg_event.specs.declared.event.Event.{Event}
 use Rattle.pg_event.specs.declared.event.Want.{Want}
 use Rattle.pg_event.specs.Heads.{Head, judges_accessed}
 use Rattle.pg_event.specs.Values.{mem_at, control_at}
-use Rattle.pg_event.specs.Invalidation.{structure_key, must_drop_structure}
+use Rattle.pg_event.specs.Invalidation.{structure_key}
 use Rattle.pg_event.specs.Walk.{Reading, readings, below, entry_address}
 use Rattle.pg_event.specs.Wants.{is_table, is_wanted, uses_last, want_of}
-use Rattle.pg_event.specs.Witness.{Asked, asked_by, asked_of, leads_to, is_in_order, last_or, survives, structures_survive, tables_accessed, failing_end, is_done_write, failing_flags, failing_walk, failing_claim, is_updated, failing_update, walked, failing_access, failing_assist}
+use Rattle.pg_event.specs.Witness.{Asked, asked_by, asked_of, leads_to, is_in_order, last_or, structures_survive, tables_accessed, failing_end, is_done_write, failing_flags, failing_walk, failing_claim, is_updated, failing_update, walked, failing_access, failing_assist, structure_survives}
 use Rattle.pg_machine.specs.Machine.{may_cache}
 use Rattle.pg_event.specs.declared.walk.Parent.{Parent}
 use Rattle.pg_run_of.specs.Plan.{root_at}
@@ -41,7 +41,7 @@ pub record IsHop (head : Head) (all : List Event) (p la pcid y : ℕ) (level : L
   pub alike : (control_at head all p x).pcid ≡ pcid
   pub table : is_table (kind_of head.cfg level (seen (mem_at all) la level from x)) ≡ true
   pub cached : may_cache head.version (seen (mem_at all) la level from x) ≡ true
-  pub kept : survives head all p (λ c e. must_drop_structure c e (structure_key pcid level la)) x y ≡ true
+  pub kept : structure_survives head all p (structure_key pcid level la) x y ≡ true
 
 -- reading by these moments, and last at w, one comes from a table at a level to another
 abbrev pub Comes : Head → List Event → ℕ → ℕ → ℕ → ℕ → Level → Parent → List ℕ → Level → Parent → Type 0

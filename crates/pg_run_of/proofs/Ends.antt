@@ -23,7 +23,7 @@ use Rattle.pg_event.specs.Values.{control_at}
 use Rattle.pg_event.specs.Invalidation.{bits_from, must_drop_structure, must_drop_translation}
 use Rattle.pg_event.specs.Walk.{Reading}
 use Rattle.pg_event.specs.Wants.{is_wanted, may_dirty, uses_last, want_of}
-use Rattle.pg_event.specs.Witness.{takes_out, failing_end, failing_fault, is_done_write, is_updated, survives}
+use Rattle.pg_event.specs.Witness.{takes_out, failing_end, failing_fault, is_done_write, is_updated, survives, structure_survives, translation_survives}
 use Rattle.pg_machine.specs.Machine.{IsIn, Answers, Faults, HasOutcome, IsWalkable, MayAssist, State, may_cache, after_event, entry_now, is_usable, translation_at, with_leaf, with_translation}
 use Rattle.pg_event.specs.declared.walk.Parent.{Parent}
 use Rattle.pg_run_of.specs.declared.fill.Fill.{Fill}
@@ -133,7 +133,7 @@ comes head all s c pcid now from r low reads (kinds.Table addr) kind wanted stoo
 comes head all s c pcid now from r low reads (kinds.Leaf frame shift g) kind wanted stood h serves =
     let t : Translation = leaf_of head all c.p c.la pcid r frame shift g in
     let global : Bool = g && (control_at head all c.p r.moment).pge in
-    let survived = guard_none (survives head all c.p (λ d e. must_drop_translation d e t.key) r.moment c.number) reasons.TranslationDropped _ h in
+    let survived = guard_none (translation_survives head all c.p t.key r.moment c.number) reasons.TranslationDropped _ h in
     let own = bar_none (not ((control_at head all c.p c.number).pcid == pcid) && not global) reasons.ForeignPcid _ survived.1 in
     let used = may_use ((control_at head all c.p c.number).pcid == pcid) global own.0 in
     let ours : ((s.control c.p).pcid == pcid || global) ≡ true =
@@ -174,17 +174,17 @@ not_taken head all p test from to w e h low high at =
 
 -- what stood before the event stands after it, if it survives
 pub structure_stays : (head : Head) (all : List Event) (s : State) (p w : ℕ) (x : Structure) (from to : ℕ) (e : Event) → At head all s w →
-    survives head all p (λ c e. must_drop_structure c e x.key) from to ≡ true → from ≤ w → w < to → slice_get all w ≡ Some e →
+    structure_survives head all p x.key from to ≡ true → from ≤ w → w < to → slice_get all w ≡ Some e →
     IsIn x (s.structures p) → IsIn x ((after_event head s e).structures p)
 structure_stays head all s p w x from to e now h low high at i =
-    let kept = not_taken head all p (λ c e. must_drop_structure c e x.key) from to w e h low high at in
-    in-filter (λ y. not (processor_of e == p && must_drop_structure (s.control p) e y.key)) x (s.structures p) i
-    (ap not (ap (λ c. processor_of e == p && must_drop_structure c e x.key) (sym (now.control p)) ∙ kept))
+    let kept = not_taken head all p (λ c e. must_drop_structure head.cfg.rules c e x.key) from to w e h low high at in
+    in-filter (λ y. not (processor_of e == p && must_drop_structure head.cfg.rules (s.control p) e y.key)) x (s.structures p) i
+    (ap not (ap (λ c. processor_of e == p && must_drop_structure head.cfg.rules c e x.key) (sym (now.control p)) ∙ kept))
 
 pub translation_stays : (head : Head) (all : List Event) (s : State) (p w : ℕ) (x : Translation) (from to : ℕ) (e : Event) → At head all s w →
-    survives head all p (λ c e. must_drop_translation c e x.key) from to ≡ true → from ≤ w → w < to → slice_get all w ≡ Some e →
+    translation_survives head all p x.key from to ≡ true → from ≤ w → w < to → slice_get all w ≡ Some e →
     IsIn x (s.translations p) → IsIn x ((after_event head s e).translations p)
 translation_stays head all s p w x from to e now h low high at i =
-    let kept = not_taken head all p (λ c e. must_drop_translation c e x.key) from to w e h low high at in
-    in-filter (λ y. not (processor_of e == p && must_drop_translation (s.control p) e y.key)) x (s.translations p) i
-    (ap not (ap (λ c. processor_of e == p && must_drop_translation c e x.key) (sym (now.control p)) ∙ kept))
+    let kept = not_taken head all p (λ c e. must_drop_translation head.cfg.rules c e x.key) from to w e h low high at in
+    in-filter (λ y. not (processor_of e == p && must_drop_translation head.cfg.rules (s.control p) e y.key)) x (s.translations p) i
+    (ap not (ap (λ c. processor_of e == p && must_drop_translation head.cfg.rules c e x.key) (sym (now.control p)) ∙ kept))

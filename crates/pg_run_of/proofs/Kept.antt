@@ -21,7 +21,7 @@ use Rattle.pg_event.specs.Invalidation.{bits_from, level_shift, structure_key, m
 use Rattle.pg_event.specs.declared.keys.StructureKey.{StructureKey}
 use Rattle.pg_event.specs.Walk.{below, entry_address, root_of}
 use Rattle.pg_event.specs.Wants.{is_table}
-use Rattle.pg_event.specs.Witness.{any_from, takes_out, survives}
+use Rattle.pg_event.specs.Witness.{any_from, takes_out, survives, structure_survives, translation_survives}
 use Rattle.pg_event.specs.declared.walk.Parent.{Parent}
 use Rattle.pg_machine.specs.declared.step.Member.{Member}
 use Rattle.pg_machine.specs.declared.step.Member.TheVariants as members
@@ -46,7 +46,7 @@ pub record StructureKept (head : Head) (all : List Event) (p w : ℕ) (x : Struc
   pub from : Parent
   pub low : last ≤ w
   pub alike : (control_at head all p last).pcid ≡ x.key.pcid
-  pub kept : survives head all p (λ c e. must_drop_structure c e x.key) last w ≡ true
+  pub kept : structure_survives head all p x.key last w ≡ true
   pub read : (la : ℕ) → x.key.prefix ≡ bits_from (level_shift x.key.level) la → StructureRead head all p x ws last from la
 
 pub record TranslationRead (head : Head) (all : List Event) (p : ℕ) (t : Translation) (ws : List ℕ) (last : ℕ) (level : Level) (from : Parent) (g : Bool) (la : ℕ) : Type 0 where
@@ -65,7 +65,7 @@ pub record TranslationKept (head : Head) (all : List Event) (p w : ℕ) (t : Tra
   pub low : last ≤ w
   pub alike : (control_at head all p last).pcid ≡ t.key.pcid
   pub global : (g && (control_at head all p last).pge) ≡ t.key.global
-  pub kept : survives head all p (λ c e. must_drop_translation c e t.key) last w ≡ true
+  pub kept : translation_survives head all p t.key last w ≡ true
   pub read : (la : ℕ) → t.key.number ≡ bits_from t.key.shift la → TranslationRead head all p t ws last level from g la
 
 pub record Sound (head : Head) (all : List Event) (s : State) (w : ℕ) : Type 0 where
@@ -98,7 +98,7 @@ chain_below head all s w sound p la level from i =
             alike = k.alike;
             table = r.table;
             cached = r.cached;
-            kept = ap (λ (y : StructureKey). survives head all p (λ c e. must_drop_structure c e y) k.last w) whole ∙ k.kept;
+            kept = ap (λ (y : StructureKey). structure_survives head all p y k.last w) whole ∙ k.kept;
           } in
           let on = come_on head all p b x.key.pcid k.last w Four (root_at head all p (next_or k.last k.ws)) k.ws level k.from r.walk hop in
           subst (λ (f : Parent). Comes head all p b x.key.pcid w Four (root_at head all p (next_or w (k.ws ++ k.last ∷ []))) (k.ws ++ k.last ∷ []) (below level) f) r.same
@@ -179,7 +179,7 @@ table_sound head all s w now sound p la level from found =
       from = from;
       low = omega arith;
       alike = ap (λ (c : Control). c.pcid) (now.control p);
-      kept = survives_none head all p (λ c e. must_drop_structure c e y.key) w;
+      kept = survives_none head all p (λ c e. must_drop_structure head.cfg.rules c e y.key) w;
       read = λ b h.
           let value = value_now head all s w now la b level from h in
           record {
@@ -228,7 +228,7 @@ leaf_sound head all s w now sound p la level from found =
       low = omega arith;
       alike = ap (λ (c : Control). c.pcid) (now.control p);
       global = ap (λ (c : Control). g && c.pge) (now.control p);
-      kept = survives_none head all p (λ c e. must_drop_translation c e t.key) w;
+      kept = survives_none head all p (λ c e. must_drop_translation head.cfg.rules c e t.key) w;
       read = λ b h.
           let agree : Agree level la b = subst (λ v. bits_from v la ≡ bits_from v b) size h in
           let value = value_now head all s w now la b level from agree in
@@ -269,7 +269,7 @@ pub event_sound : (head : Head) (all : List Event) (s : State) (w : ℕ) (e : Ev
     Sound head all (after_event head s e) (w + 1)
 event_sound head all s w e now at sound = record {
   structures = λ p x h.
-      let there = in_filtered (λ x. not (processor_of e == p && must_drop_structure (s.control p) e x.key)) x (s.structures p) h in
+      let there = in_filtered (λ x. not (processor_of e == p && must_drop_structure head.cfg.rules (s.control p) e x.key)) x (s.structures p) h in
       let k = sound.structures p x there.0 in
       let low : k.last ≤ w = k.low in
       record {
@@ -278,12 +278,12 @@ event_sound head all s w e now at sound = record {
         from = k.from;
         low = omega (arith, low);
         alike = k.alike;
-        kept = lasts head all p (λ c e. must_drop_structure c e x.key) k.last w e low at
-            (ap (λ c. processor_of e == p && must_drop_structure c e x.key) (now.control p) ∙ not-true _ there.1) k.kept;
+        kept = lasts head all p (λ c e. must_drop_structure head.cfg.rules c e x.key) k.last w e low at
+            (ap (λ c. processor_of e == p && must_drop_structure head.cfg.rules c e x.key) (now.control p) ∙ not-true _ there.1) k.kept;
         read = k.read;
       };
   translations = λ p x h.
-      let there = in_filtered (λ x. not (processor_of e == p && must_drop_translation (s.control p) e x.key)) x (s.translations p) h in
+      let there = in_filtered (λ x. not (processor_of e == p && must_drop_translation head.cfg.rules (s.control p) e x.key)) x (s.translations p) h in
       let k = sound.translations p x there.0 in
       let low : k.last ≤ w = k.low in
       record {
@@ -295,8 +295,8 @@ event_sound head all s w e now at sound = record {
         low = omega (arith, low);
         alike = k.alike;
         global = k.global;
-        kept = lasts head all p (λ c e. must_drop_translation c e x.key) k.last w e low at
-            (ap (λ c. processor_of e == p && must_drop_translation c e x.key) (now.control p) ∙ not-true _ there.1) k.kept;
+        kept = lasts head all p (λ c e. must_drop_translation head.cfg.rules c e x.key) k.last w e low at
+            (ap (λ c. processor_of e == p && must_drop_translation head.cfg.rules c e x.key) (now.control p) ∙ not-true _ there.1) k.kept;
         read = k.read;
       };
 }

@@ -12,6 +12,7 @@ use Rattle.pg_entry.specs.declared.Kind.{Kind}
 use Rattle.pg_entry.specs.declared.Kind.TheVariants as kinds
 use Rattle.pg_entry.specs.declared.Level.TheVariants.{Four}
 use Rattle.pg_entry.specs.Kinds.{kind_of}
+use Rattle.pg_entry.specs.declared.Rules.{Rules}
 use Rattle.pg_event.specs.declared.event.Event.{Event}
 use Rattle.pg_event.specs.declared.event.Event.TheVariants.{Write, Access, Assist, MovCr3, Invlpg, Invpcid, MovCr4Pge}
 use Rattle.pg_event.specs.declared.claim.Claim.{Claim}
@@ -24,7 +25,7 @@ use Rattle.pg_event.specs.Form.{broken_rule, processor_of}
 use Rattle.pg_event.specs.Values.{written, mem_at, controlled, started, control_at}
 use Rattle.pg_event.specs.Invalidation.{structure_key, translation_key, must_drop_structure, must_drop_translation}
 use Rattle.pg_event.specs.Walk.{Reading, readings, root_of}
-use Rattle.pg_event.specs.Witness.{Asked, asked_by, asked_of, claim_of, update_of, takes_out, any_from, survives, is_one_context, structures_survive, tables_accessed, is_updated, failing_leaf, last_or, failing_end, failing_flags, failing_walk, failing_claim, failing_update, failing_access, failing_assist, failing_event, first_some, first_bad_from}
+use Rattle.pg_event.specs.Witness.{Asked, asked_by, asked_of, claim_of, update_of, takes_out, any_from, survives, is_one_context, structures_survive, tables_accessed, is_updated, failing_leaf, last_or, failing_end, failing_flags, failing_walk, failing_claim, failing_update, failing_access, failing_assist, failing_event, first_some, first_bad_from, structure_survives, translation_survives}
 use Rattle.pg_run_of.specs.Converse.{without_moments, AreSameButMoments}
 
 written_same : (a v : ℕ) (e : Event) → written a v (without_moments e) ≡ written a v e
@@ -54,25 +55,25 @@ processor_same (Invpcid q kind pcid la) = refl
 processor_same (MovCr4Pge q on) = refl
 processor_same (Assist q flags la word ws) = refl
 
-structure_same : (x : StructureKey) (c : Control) (e : Event) → must_drop_structure c (without_moments e) x ≡ must_drop_structure c e x
-structure_same x c (Access q flags la (Page page) ws) = refl
-structure_same x c (Access q flags la (Fault code) ws) = refl
-structure_same x c (Write q addr value) = refl
-structure_same x c (MovCr3 q operand) = refl
-structure_same x c (Invlpg q la) = refl
-structure_same x c (Invpcid q kind pcid la) = refl
-structure_same x c (MovCr4Pge q on) = refl
-structure_same x c (Assist q flags la word ws) = refl
+structure_same : (rules : Rules) (x : StructureKey) (c : Control) (e : Event) → must_drop_structure rules c (without_moments e) x ≡ must_drop_structure rules c e x
+structure_same rules x c (Access q flags la (Page page) ws) = refl
+structure_same rules x c (Access q flags la (Fault code) ws) = refl
+structure_same rules x c (Write q addr value) = refl
+structure_same rules x c (MovCr3 q operand) = refl
+structure_same rules x c (Invlpg q la) = refl
+structure_same rules x c (Invpcid q kind pcid la) = refl
+structure_same rules x c (MovCr4Pge q on) = refl
+structure_same rules x c (Assist q flags la word ws) = refl
 
-translation_same : (x : TranslationKey) (c : Control) (e : Event) → must_drop_translation c (without_moments e) x ≡ must_drop_translation c e x
-translation_same x c (Access q flags la (Page page) ws) = refl
-translation_same x c (Access q flags la (Fault code) ws) = refl
-translation_same x c (Write q addr value) = refl
-translation_same x c (MovCr3 q operand) = refl
-translation_same x c (Invlpg q la) = refl
-translation_same x c (Invpcid q kind pcid la) = refl
-translation_same x c (MovCr4Pge q on) = refl
-translation_same x c (Assist q flags la word ws) = refl
+translation_same : (rules : Rules) (x : TranslationKey) (c : Control) (e : Event) → must_drop_translation rules c (without_moments e) x ≡ must_drop_translation rules c e x
+translation_same rules x c (Access q flags la (Page page) ws) = refl
+translation_same rules x c (Access q flags la (Fault code) ws) = refl
+translation_same rules x c (Write q addr value) = refl
+translation_same rules x c (MovCr3 q operand) = refl
+translation_same rules x c (Invlpg q la) = refl
+translation_same rules x c (Invpcid q kind pcid la) = refl
+translation_same rules x c (MovCr4Pge q on) = refl
+translation_same rules x c (Assist q flags la word ws) = refl
 
 fold-without : {X : Type 0} (step : X → Event → X) → ((x : X) (e : Event) → step x (without_moments e) ≡ step x e) → (x : X) (es : List Event) →
     fold step x (map without_moments es) ≡ fold step x es
@@ -106,8 +107,8 @@ structures_same head es p pcid la [] = refl
 structures_same head es p pcid la (r ∷ []) = refl
 structures_same head es p pcid la (r ∷ s ∷ rs) =
     let x : StructureKey = structure_key pcid r.level la in
-    ap (λ b. b && structures_survive head (map without_moments es) p pcid la (s ∷ rs)) (survives_same head es p (λ c e. must_drop_structure c e x) (structure_same x) r.moment s.moment)
-    ∙ ap (λ b. survives head es p (λ c e. must_drop_structure c e x) r.moment s.moment && b) (structures_same head es p pcid la (s ∷ rs))
+    ap (λ b. b && structures_survive head (map without_moments es) p pcid la (s ∷ rs)) (survives_same head es p (λ c e. must_drop_structure head.cfg.rules c e x) (structure_same head.cfg.rules x) r.moment s.moment)
+    ∙ ap (λ b. structure_survives head es p x r.moment s.moment && b) (structures_same head es p pcid la (s ∷ rs))
 
 end_same : (head : Head) (es : List Event) (c : Claim) (pcid : ℕ) (r : Reading) (k : Kind) →
     failing_end head (map without_moments es) c pcid r k ≡ failing_end head es c pcid r k
@@ -117,8 +118,8 @@ end_same head es c pcid r (kinds.Leaf frame shift g) =
     let t : TranslationKey = leaf (control_at head es) in
     let rest : (ℕ → ℕ → Control) → Option Reason = λ d. cond (not ((d c.p c.number).pcid == pcid) && not (g && (d c.p r.moment).pge)) (Some reasons.ForeignPcid)
     (failing_leaf head.cfg c.kind r.rights (frame + c.la % 2 ^ shift) c.outcome) in
-    ap (λ (d : ℕ → ℕ → Control). cond (not (survives head all c.p (λ x e. must_drop_translation x e (leaf d)) r.moment c.number)) (Some reasons.TranslationDropped) (rest d)) (control_same head es)
-    ∙ ap (λ b. cond (not b) (Some reasons.TranslationDropped) (rest (control_at head es))) (survives_same head es c.p (λ x e. must_drop_translation x e t) (translation_same t) r.moment c.number)
+    ap (λ (d : ℕ → ℕ → Control). cond (not (translation_survives head all c.p (leaf d) r.moment c.number)) (Some reasons.TranslationDropped) (rest d)) (control_same head es)
+    ∙ ap (λ b. cond (not b) (Some reasons.TranslationDropped) (rest (control_at head es))) (survives_same head es c.p (λ x e. must_drop_translation head.cfg.rules x e t) (translation_same head.cfg.rules t) r.moment c.number)
 end_same head es c pcid r kinds.Absent = refl
 end_same head es c pcid r kinds.Reserved = refl
 end_same head es c pcid r (kinds.Table addr) = refl

@@ -24,10 +24,9 @@ use Rattle.pg_event.specs.Form.{access_kind, says_dirty, broken_rule}
 use Rattle.pg_event.specs.declared.claim.Claim.{Claim}
 use Rattle.pg_event.specs.declared.claim.Update.{Update}
 use Rattle.pg_event.specs.Values.{control_at, mem_at, written, controlled, started}
-use Rattle.pg_event.specs.Invalidation.{must_drop_structure, must_drop_translation}
 use Rattle.pg_event.specs.Walk.{Reading, readings, below, root_of}
 use Rattle.pg_event.specs.Wants.{is_wanted, may_dirty, want_of}
-use Rattle.pg_event.specs.Witness.{Asked, asked_by, asked_of, claim_of, update_of, failing_access, failing_assist, failing_end, is_in_order, last_or, leads_to, structures_survive, survives, failing_event, first_bad_from, first_some}
+use Rattle.pg_event.specs.Witness.{Asked, asked_by, asked_of, claim_of, update_of, failing_access, failing_assist, failing_end, is_in_order, last_or, leads_to, structures_survive, failing_event, first_bad_from, first_some, Accepted, structure_survives, translation_survives}
 use Rattle.pg_event.specs.declared.walk.Parent.{Parent}
 use Rattle.pg_machine.specs.declared.step.Step.TheVariants.{Do}
 use Rattle.pg_machine.specs.Machine.{IsIn, HasOutcome, IsWalkable, MayAssist, State, after_event, is_usable, start, MayCome, MayRead}
@@ -40,7 +39,6 @@ use Rattle.std.specs.List.{flat_map}
 use Rattle.std.proofs.Common.{◌<◌}
 use Rattle.std.proofs.lemmas.Grind.{flat_map-append}
 use Rattle.pg_machine.specs.Machine.{IsRun}
-use Rattle.pg_event.specs.Witness.{Accepted}
 use Rattle.std.specs.Prelude.{slice_get, fold}
 use Rattle.pg_run_of.proofs.Accesses.{guard_none, WalkHolds, AreCached, ClaimHolds, claim_holds, UpdateHolds, update_holds, access_inside, assist_inside}
 use Rattle.pg_run_of.proofs.Standing.{read_at, At, Grows, Stands, Stood, Tables, entry_of, given, grows_refl, grows_on, stands_grow, stood_grow, tables, at_grown}
@@ -365,7 +363,7 @@ stood_stays head all s w p la pcid e now at level from x [] kept h = tt
 stood_stays head all s w p la pcid e now at level from x (y ∷ ys) kept h =
     let gave : Parent = given head.cfg.m (mem_at all) la level from x in
     let mine : Structure = entry_of pcid la level gave in
-    let parts = and_parts (survives head all p (λ c v. must_drop_structure c v mine.key) x y)
+    let parts = and_parts (structure_survives head all p mine.key x y)
     (structures_survive head all p pcid la (readings head.cfg.m (mem_at all) la (below level) gave.table gave.rights (y ∷ ys))) kept in (
       λ low high. structure_stays head all s p w mine x y e now parts.0 (omega (arith, low)) (omega (arith, high)) at (h.0 (omega (arith, low)) (omega (arith, high))),
       stood_stays head all s w p la pcid e now at (below level) gave y ys parts.1 h.1,
@@ -376,7 +374,7 @@ leaf_stays : (head : Head) (all : List Event) (s : State) (w : ℕ) (c : Claim) 
     LeafStood head all s c.p c.la pcid w c.number r k → LeafStands head all (after_event head s e) c.p c.la pcid (w + 1) c.number r k
 leaf_stays head all s w c pcid e now at r (kinds.Leaf frame shift g) h stood =
     let t : Translation = leaf_of head all c.p c.la pcid r frame shift g in
-    let kept = guard_none (survives head all c.p (λ d v. must_drop_translation d v t.key) r.moment c.number) reasons.TranslationDropped _ h in
+    let kept = guard_none (translation_survives head all c.p t.key r.moment c.number) reasons.TranslationDropped _ h in
     λ low high. translation_stays head all s c.p w t r.moment c.number e now kept.0 (omega (arith, low)) (omega (arith, high)) at (stood (omega (arith, low)) (omega (arith, high)))
 leaf_stays head all s w c pcid e now at r kinds.Absent h stood = tt
 leaf_stays head all s w c pcid e now at r kinds.Reserved h stood = tt

@@ -1,8 +1,9 @@
 -- An accepted record is the record of a run.
 use Rattle.std.specs.Prelude.{◌≡◌, List, [], ◌∷◌, None}
 use Rattle.std.specs.List.{AllByRecursion}
+use Rattle.pg_entry.specs.declared.Rules.{Rules}
 use Rattle.pg_event.specs.declared.event.Event.{Event}
-use Rattle.pg_event.specs.Heads.{Head}
+use Rattle.pg_event.specs.Heads.{Head, with_rules}
 use Rattle.pg_event.specs.Form.{broken_rule}
 use Rattle.pg_event.specs.Spelling.{Recorded, IsRecord}
 use Rattle.pg_event.specs.Witness.{Accepted}
@@ -24,6 +25,8 @@ AcceptedEventsRun =
 abbrev pub AcceptedRecordsRun : Type 0
 AcceptedRecordsRun = (r : Recorded) → IsRecord r → Accepted r.head r.events → HasRun r.head r.events
 
--- not every record has a run: a read that is answered before anything was written has none
+-- not every record has a run: a read that is answered before anything was written has none,
+-- whatever rules its processor is held to
 abbrev pub AnsweredReadHasNoRun : Type 0
-AnsweredReadHasNoRun = HasRun one_processor (answered_read ∷ []) → ⊥
+AnsweredReadHasNoRun =
+    (rules : Rules) → HasRun (with_rules one_processor rules) (answered_read ∷ []) → ⊥

@@ -31,7 +31,7 @@ use Rattle.pg_event.specs.Values.{mem_at, control_at}
 use Rattle.pg_event.specs.Invalidation.{structure_key, translation_key, must_drop_structure, must_drop_translation}
 use Rattle.pg_event.specs.Walk.{Reading, readings, entry_address, below, root_of}
 use Rattle.pg_event.specs.Wants.{is_table, may_dirty}
-use Rattle.pg_event.specs.Witness.{leads_to, is_in_order, is_one_context, last_or, survives, structures_survive, tables_accessed, Asked, asked_by, asked_of, is_updated, failing_leaf, failing_fault, failing_end, failing_flags, failing_walk, failing_claim, failing_update, walked, failing_access, failing_assist, claim_of, update_of, failing_event}
+use Rattle.pg_event.specs.Witness.{leads_to, is_in_order, is_one_context, last_or, survives, structures_survive, tables_accessed, Asked, asked_by, asked_of, is_updated, failing_leaf, failing_fault, failing_end, failing_flags, failing_walk, failing_claim, failing_update, walked, failing_access, failing_assist, claim_of, update_of, failing_event, structure_survives, translation_survives}
 use Rattle.pg_run_of.proofs.Accesses.{guard_none, last_none}
 use Rattle.pg_search.specs.Law.{with_moments, names_moments, AreWitness}
 use Rattle.pg_search.specs.ReachableTables.{first_or}
@@ -44,9 +44,9 @@ pub record Carries (head : Head) (xs ys : List Event) (i : ℕ) (f : ℕ → ℕ
   pub memory : (w a : ℕ) → w ≤ i → mem_at xs w a ≡ mem_at ys (f w) a
   pub control : (p w : ℕ) → w ≤ i → control_at head xs p w ≡ control_at head ys p (f w)
   pub structures : (p : ℕ) (s : StructureKey) (from to : ℕ) → from ≤ i → to ≤ i →
-      survives head xs p (λ c e. must_drop_structure c e s) from to ≡ survives head ys p (λ c e. must_drop_structure c e s) (f from) (f to)
+      structure_survives head xs p s from to ≡ structure_survives head ys p s (f from) (f to)
   pub translations : (p : ℕ) (t : TranslationKey) (from to : ℕ) → from ≤ i → to ≤ i →
-      survives head xs p (λ c e. must_drop_translation c e t) from to ≡ survives head ys p (λ c e. must_drop_translation c e t) (f from) (f to)
+      translation_survives head xs p t from to ≡ translation_survives head ys p t (f from) (f to)
 
 -- moments, none above the last
 
@@ -132,7 +132,7 @@ moved_structures : (head : Head) (xs ys : List Event) (i : ℕ) (f : ℕ → ℕ
 moved_structures head xs ys i f p pcid la [] k up = refl
 moved_structures head xs ys i f p pcid la (r ∷ []) k up = refl
 moved_structures head xs ys i f p pcid la (r ∷ s ∷ rs) k up =
-    let test : Control → Event → Bool = λ c e. must_drop_structure c e (structure_key pcid r.level la) in
+    let test : Control → Event → Bool = λ c e. must_drop_structure head.cfg.rules c e (structure_key pcid r.level la) in
     ap (λ b. b && structures_survive head ys p pcid la (map (moved f) (s ∷ rs))) (sym (k.structures p (structure_key pcid r.level la) r.moment s.moment up.0 up.1.0))
     ∙ ap (λ b. survives head xs p test r.moment s.moment && b) (moved_structures head xs ys i f p pcid la (s ∷ rs) k up.1)
 
@@ -189,7 +189,7 @@ moved_end : (head : Head) (xs ys : List Event) (f : ℕ → ℕ) (c : Claim) (pc
 moved_end head xs ys f c pcid r (kinds.Leaf frame shift global_bit) k low h =
     let i : ℕ = c.number in
     let address : ℕ = frame + c.la % 2 ^ shift in
-    let test : Bool → Control → Event → Bool = λ global d e. must_drop_translation d e (translation_key pcid shift global c.la) in
+    let test : Bool → Control → Event → Bool = λ global d e. must_drop_translation head.cfg.rules d e (translation_key pcid shift global c.la) in
     let global : Bool = global_bit && (control_at head xs c.p r.moment).pge in
     let now : Control = control_at head ys c.p (f i) in
     ap (λ (d : Control). leaf_end head c pcid r.rights address (global_bit && d.pge) (survives head ys c.p (test (global_bit && d.pge)) (f r.moment) (f i)) now) (sym (k.control c.p r.moment low))

@@ -6,6 +6,7 @@ use Rattle.std.proofs.lemmas.Bool.{cases_Bool, cases_lt, cases_eq, and_right, eq
 use Rattle.std.proofs.lemmas.List.{take-map, take-take}
 use Rattle.std.proofs.lemmas.List.Sums.{fold-append}
 use Rattle.std.proofs.lemmas.Option.{slice_get-map}
+use Rattle.pg_entry.specs.declared.Rules.{Rules}
 use Rattle.pg_event.specs.declared.control.Control.{Control}
 use Rattle.pg_event.specs.declared.event.Event.{Event}
 use Rattle.pg_event.specs.declared.event.Event.TheVariants.{Write, Access, Assist, MovCr3, Invlpg, Invpcid, MovCr4Pge}
@@ -59,25 +60,25 @@ controlled_kept m p c (MovCr4Pge q on) = refl
 abbrev IsOfChanges : (Control → Event → Bool) → Type 0
 IsOfChanges test = (p : ℕ) (c : Control) (e : Event) → takes_out p test c (Some (kept_of e)) ≡ takes_out p test c (Some e)
 
-structures_of_changes : (s : StructureKey) → IsOfChanges (λ c e. must_drop_structure c e s)
-structures_of_changes s p c (Write q addr value) = refl
-structures_of_changes s p c (Access q flags la (Page page) moments) = and_right (0 == p) false refl ∙ sym (and_right (q == p) false refl)
-structures_of_changes s p c (Access q flags la (Fault code) moments) = refl
-structures_of_changes s p c (Assist q flags la word moments) = refl
-structures_of_changes s p c (MovCr3 q operand) = refl
-structures_of_changes s p c (Invlpg q la) = refl
-structures_of_changes s p c (Invpcid q kind pcid la) = refl
-structures_of_changes s p c (MovCr4Pge q on) = refl
+structures_of_changes : (rules : Rules) (s : StructureKey) → IsOfChanges (λ c e. must_drop_structure rules c e s)
+structures_of_changes rules s p c (Write q addr value) = refl
+structures_of_changes rules s p c (Access q flags la (Page page) moments) = and_right (0 == p) false refl ∙ sym (and_right (q == p) false refl)
+structures_of_changes rules s p c (Access q flags la (Fault code) moments) = refl
+structures_of_changes rules s p c (Assist q flags la word moments) = refl
+structures_of_changes rules s p c (MovCr3 q operand) = refl
+structures_of_changes rules s p c (Invlpg q la) = refl
+structures_of_changes rules s p c (Invpcid q kind pcid la) = refl
+structures_of_changes rules s p c (MovCr4Pge q on) = refl
 
-translations_of_changes : (t : TranslationKey) → IsOfChanges (λ c e. must_drop_translation c e t)
-translations_of_changes t p c (Write q addr value) = refl
-translations_of_changes t p c (Access q flags la (Page page) moments) = and_right (0 == p) false refl ∙ sym (and_right (q == p) false refl)
-translations_of_changes t p c (Access q flags la (Fault code) moments) = refl
-translations_of_changes t p c (Assist q flags la word moments) = refl
-translations_of_changes t p c (MovCr3 q operand) = refl
-translations_of_changes t p c (Invlpg q la) = refl
-translations_of_changes t p c (Invpcid q kind pcid la) = refl
-translations_of_changes t p c (MovCr4Pge q on) = refl
+translations_of_changes : (rules : Rules) (t : TranslationKey) → IsOfChanges (λ c e. must_drop_translation rules c e t)
+translations_of_changes rules t p c (Write q addr value) = refl
+translations_of_changes rules t p c (Access q flags la (Page page) moments) = and_right (0 == p) false refl ∙ sym (and_right (q == p) false refl)
+translations_of_changes rules t p c (Access q flags la (Fault code) moments) = refl
+translations_of_changes rules t p c (Assist q flags la word moments) = refl
+translations_of_changes rules t p c (MovCr3 q operand) = refl
+translations_of_changes rules t p c (Invlpg q la) = refl
+translations_of_changes rules t p c (Invpcid q kind pcid la) = refl
+translations_of_changes rules t p c (MovCr4Pge q on) = refl
 
 -- the first events
 
@@ -131,8 +132,8 @@ module _ (head : Head) (kept events : List Event) (k : AreKeptOf kept events) wh
   kept_alike i low = record {
     memory = λ w a le. memory_kept w a (omega (arith, le, low));
     control = λ p w le. control_kept p w (omega (arith, le, low));
-    structures = λ p s from to _ le. survives_kept p (λ c e. must_drop_structure c e s) from to (structures_of_changes s) (omega (arith, le, low));
-    translations = λ p t from to _ le. survives_kept p (λ c e. must_drop_translation c e t) from to (translations_of_changes t) (omega (arith, le, low));
+    structures = λ p s from to _ le. survives_kept p (λ c e. must_drop_structure head.cfg.rules c e s) from to (structures_of_changes head.cfg.rules s) (omega (arith, le, low));
+    translations = λ p t from to _ le. survives_kept p (λ c e. must_drop_translation head.cfg.rules c e t) from to (translations_of_changes head.cfg.rules t) (omega (arith, le, low));
   }
 
 alike_back : (head : Head) (xs ys : List Event) (i : ℕ) → AreAlike head xs ys i → AreAlike head ys xs i
@@ -240,8 +241,8 @@ module _ (head : Head) (events : List Event) (n : ℕ) (e : Event) (at : slice_g
     rises = rises;
     memory = λ w a low. moved (λ v. mem_at events v a) (memory_past a) w low;
     control = λ p w low. moved (control_at head events p) (control_past p) w low;
-    structures = λ p s from to low high. survives_past p (λ c e. must_drop_structure c e s) (λ c. undropped (λ c e. must_drop_structure c e s) p c e (structures_of_changes s) (and_right (0 == p) false refl) leaves) from to low high;
-    translations = λ p t from to low high. survives_past p (λ c e. must_drop_translation c e t) (λ c. undropped (λ c e. must_drop_translation c e t) p c e (translations_of_changes t) (and_right (0 == p) false refl) leaves) from to low high;
+    structures = λ p s from to low high. survives_past p (λ c e. must_drop_structure head.cfg.rules c e s) (λ c. undropped (λ c e. must_drop_structure head.cfg.rules c e s) p c e (structures_of_changes head.cfg.rules s) (and_right (0 == p) false refl) leaves) from to low high;
+    translations = λ p t from to low high. survives_past p (λ c e. must_drop_translation head.cfg.rules c e t) (λ c. undropped (λ c e. must_drop_translation head.cfg.rules c e t) p c e (translations_of_changes head.cfg.rules t) (and_right (0 == p) false refl) leaves) from to low high;
   }
 
   witness_past : (x : Event) (ws : List ℕ) → AreWitness head events n x ws → AreWitness head events (suc n) x (map (past n) ws)
@@ -296,9 +297,9 @@ dropped_by_a_change head events p from to event key taker gone at =
     elim (cases_Bool (changes_something taker)) as (λ _. changes_something taker ≡ true) [
       | inl t ↦ t
       | inr f ↦
-          let test : Control → Event → Bool = λ c e. must_drop_translation c e key in
+          let test : Control → Event → Bool = λ c e. must_drop_translation head.cfg.rules c e key in
           let same : survives head events p test from (suc event) ≡ survives head events p test from event =
-          on_end head events event taker at f p test (λ c. undropped test p c taker (translations_of_changes key) (and_right (0 == p) false refl) f) from gone.0 in
+          on_end head events event taker at f p test (λ c. undropped test p c taker (translations_of_changes head.cfg.rules key) (and_right (0 == p) false refl) f) from gone.0 in
           let low : suc event ≤ event = gone.3 (suc event) (omega (arith, gone.1)) (same ∙ gone.2) in
           absurd (omega (arith, low))
     ]

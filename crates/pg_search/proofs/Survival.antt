@@ -76,7 +76,7 @@ abbrev pub IsDropOf : Head → List Event → ℕ → ℕ → Option ℕ → (Co
 IsDropOf head all p from found test = IsFirstDrop (λ a b. not (survives head all p test a b)) from (2 ^ 32 - 1) found
 
 abbrev pub IsStructureDrop : Head → List Event → ℕ → ℕ → Option ℕ → StructureKey → Type 0
-IsStructureDrop head all p from found key = IsDropOf head all p from found (λ c e. must_drop_structure c e key)
+IsStructureDrop head all p from found key = IsDropOf head all p from found (λ c e. must_drop_structure head.cfg.rules c e key)
 
 abbrev pub IsTranslationDrop : Head → List Event → ℕ → ℕ → Option ℕ → TranslationKey → Type 0
-IsTranslationDrop head all p from found key = IsDropOf head all p from found (λ c e. must_drop_translation c e key)
+IsTranslationDrop head all p from found key = IsDropOf head all p from found (λ c e. must_drop_translation head.cfg.rules c e key)

@@ -9,8 +9,7 @@ use Rattle.pg_event.specs.declared.keys.StructureKey.{StructureKey}
 use Rattle.pg_event.specs.declared.keys.TranslationKey.{TranslationKey}
 use Rattle.pg_event.specs.Heads.{Head}
 use Rattle.pg_event.specs.Values.{mem_at, control_at}
-use Rattle.pg_event.specs.Invalidation.{must_drop_structure, must_drop_translation}
-use Rattle.pg_event.specs.Witness.{survives}
+use Rattle.pg_event.specs.Witness.{structure_survives, translation_survives}
 use Rattle.pg_chain.specs.Standing.{changes_nothing}
 use Rattle.pg_search.specs.declared.last.Last.{Last}
 use Rattle.pg_search.specs.Placeholders.{with_placeholder}
@@ -54,7 +53,7 @@ TakenByAChange = (head : Head) (events : List Event) (i : ℕ) (e : Event) (last
 abbrev pub DroppedByAChange : Type 0
 DroppedByAChange = (head : Head) (events : List Event) (p from to event : ℕ)
     (key : TranslationKey) (taker : Event) →
-    IsEndedBy (λ w. survives head events p (λ c e. must_drop_translation c e key) from w)
+    IsEndedBy (λ w. translation_survives head events p key from w)
     from to (Some event) →
     slice_get events event ≡ Some taker → changes_something taker ≡ true
 
@@ -63,11 +62,11 @@ pub record AreAlike (head : Head) (xs ys : List Event) (i : ℕ) : Type 0 where
   pub memory : (w a : ℕ) → w ≤ i → mem_at xs w a ≡ mem_at ys w a
   pub control : (p w : ℕ) → w ≤ i → control_at head xs p w ≡ control_at head ys p w
   pub structures : (p : ℕ) (s : StructureKey) (from to : ℕ) → from ≤ i → to ≤ i →
-      survives head xs p (λ c e. must_drop_structure c e s) from to
-      ≡ survives head ys p (λ c e. must_drop_structure c e s) from to
+      structure_survives head xs p s from to
+      ≡ structure_survives head ys p s from to
   pub translations : (p : ℕ) (t : TranslationKey) (from to : ℕ) → from ≤ i → to ≤ i →
-      survives head xs p (λ c e. must_drop_translation c e t) from to
-      ≡ survives head ys p (λ c e. must_drop_translation c e t) from to
+      translation_survives head xs p t from to
+      ≡ translation_survives head ys p t from to
 
 -- no more than these says which moments witness an event
 abbrev pub WitnessedAlike : Type 0

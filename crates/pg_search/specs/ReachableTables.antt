@@ -8,10 +8,10 @@ use Rattle.pg_event.specs.declared.event.Event.{Event}
 use Rattle.pg_event.specs.declared.walk.Parent.{Parent}
 use Rattle.pg_event.specs.Heads.{Head}
 use Rattle.pg_event.specs.Values.{mem_at, control_at}
-use Rattle.pg_event.specs.Invalidation.{structure_key, must_drop_structure}
+use Rattle.pg_event.specs.Invalidation.{structure_key}
 use Rattle.pg_event.specs.Walk.{entry_address, below, root_of}
 use Rattle.pg_event.specs.Wants.{is_table}
-use Rattle.pg_event.specs.Witness.{survives}
+use Rattle.pg_event.specs.Witness.{structure_survives}
 use Rattle.pg_machine.specs.Machine.{may_cache}
 
 -- the entry that a level has at moment w in a table (4.5)
@@ -41,8 +41,7 @@ pub record IsLink (head : Head) (events : List Event) (v : Walker) (y : ℕ) (le
   pub alike : (control_at head events v.p x).pcid ≡ v.pcid
   pub table : is_table (kind_of head.cfg level (entry_at events v.la x level from)) ≡ true
   pub cached : may_cache head.version (entry_at events v.la x level from) ≡ true
-  pub kept : survives head events v.p
-      (λ c e. must_drop_structure c e (structure_key v.pcid level v.la)) x y ≡ true
+  pub kept : structure_survives head events v.p (structure_key v.pcid level v.la) x y ≡ true
 
 -- the moments lead from one table at a level to another, each structure entry surviving to the next
 -- reading and the last to w

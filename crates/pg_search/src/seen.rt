@@ -5,8 +5,7 @@ ghost use Rattle.pg_entry.specs.Kinds.{IsPageShift};
 ghost use Rattle.pg_event.specs.Spelling.{IsHead};
 ghost use Rattle.pg_event.specs.Values.{mem_at, control_at};
 ghost use Rattle.pg_event.specs.Invalidation.{structure_key, translation_key};
-ghost use Rattle.pg_event.specs.Invalidation.{must_drop_structure, must_drop_translation};
-ghost use Rattle.pg_event.specs.Witness.{survives};
+ghost use Rattle.pg_event.specs.Witness.{structure_survives, translation_survives};
 ghost use Rattle.pg_timeline.specs.Timelines.{IsSpan};
 ghost use Rattle.pg_inval.specs.Drops.{IsTableLevel};
 ghost use Rattle.pg_chain.specs.Standing.{IsPast};
@@ -169,8 +168,7 @@ impl<'a> Seen<'a> {
     pub fn structure_survives(&self, lookup: Lookup, level: Level, from: u32, to: u32) -> bool
         requires { IsTableLevel level }
         ensures { let key = structure_key lookup.pcid level lookup.la in
-            result ≡ survives self.now.head self.now.events lookup.p
-            (λ c e. must_drop_structure c e key) from to }
+            result ≡ structure_survives self.now.head self.now.events lookup.p key from to }
     {
         let key = structure_key(lookup.pcid, level, lookup.la);
         self.past
@@ -182,8 +180,8 @@ impl<'a> Seen<'a> {
     pub fn structure_end(&self, lookup: Lookup, level: Level, from: u32) -> u32
         requires { IsTableLevel level }
         ensures { let key = structure_key lookup.pcid level lookup.la in
-            IsEnd (λ w. survives self.now.head self.now.events lookup.p
-            (λ c e. must_drop_structure c e key) from w) from result }
+            IsEnd (λ w. structure_survives self.now.head self.now.events lookup.p key from w)
+            from result }
     {
         let key = structure_key(lookup.pcid, level, lookup.la);
         let mut probes = Probes::new();
@@ -207,8 +205,7 @@ impl<'a> Seen<'a> {
         requires shift { IsPageShift shift }
         requires order { from ≤ to }
         ensures { let key = translation_key lookup.pcid shift global lookup.la in
-            result ≡ survives self.now.head self.now.events lookup.p
-            (λ c e. must_drop_translation c e key) from to }
+            result ≡ translation_survives self.now.head self.now.events lookup.p key from to }
     {
         let key = translation_key(lookup.pcid, shift, global, lookup.la);
         let mut probes = Probes::new();
@@ -224,8 +221,8 @@ impl<'a> Seen<'a> {
     pub fn translation_end(&self, lookup: Lookup, shift: u8, global: bool, from: u32) -> u32
         requires { IsPageShift shift }
         ensures { let key = translation_key lookup.pcid shift global lookup.la in
-            IsEnd (λ w. survives self.now.head self.now.events lookup.p
-            (λ c e. must_drop_translation c e key) from w) from result }
+            IsEnd (λ w. translation_survives self.now.head self.now.events lookup.p key from w)
+            from result }
     {
         let key = translation_key(lookup.pcid, shift, global, lookup.la);
         let mut probes = Probes::new();

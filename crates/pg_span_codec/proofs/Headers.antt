@@ -10,7 +10,7 @@ use Rattle.pg_event.specs.declared.refusal.Refusal.{Refusal}
 use Rattle.pg_event.specs.declared.refusal.Refusal.TheVariants as refusals
 use Rattle.pg_event.specs.declared.version.Version.{Version}
 use Rattle.pg_event.specs.declared.version.Version.TheVariants as versions
-use Rattle.pg_event.specs.Heads.{Head}
+use Rattle.pg_event.specs.Heads.{Head, HoldsToAll}
 use Rattle.pg_event.specs.Spelling.{version_number, processor_bytes, start_bytes, header_bytes, IsHead}
 use Rattle.pg_event.specs.Reading.{◌>>=◌, Part, number_at, magic_at, version_at, starts_at, header_at}
 use Rattle.pg_event.specs.Laws.{AreBytes}
@@ -130,11 +130,11 @@ old_header head = old_in_parts head.version head.cfg.m head.cfg.flags.0 (length 
 new_header : (head : Head) → spans_header_bytes head ≡ codes "PGRECORD" ++ (to_le_bytes w16 (spans_number head.version) ++ settings_tail head)
 new_header head = new_in_parts head.version head.cfg.m head.cfg.flags.0 (length head.processors) head.segment (flat_map start_bytes head.processors)
 
-settings_again : (head : Head) (rest : List ℕ) → IsHead head → header_behind head.version (settings_tail head ++ rest) ≡ Ok (head, rest)
-settings_again head rest is =
+settings_again : (head : Head) (rest : List ℕ) → IsHead head → HoldsToAll head → header_behind head.version (settings_tail head ++ rest) ≡ Ok (head, rest)
+settings_again head rest is all =
     sym (as_header head.version (settings_tail head ++ rest))
     ∙ ap (λ (w : List ℕ). header_at (w ++ rest)) (sym (old_header head))
-    ∙ header_again head rest is
+    ∙ header_again head rest is all
 
 -- the version and what is after it, of bytes with the same magic
 same_front : (v w : Version) (xs ys : List ℕ) → codes "PGRECORD" ++ (to_le_bytes w16 (version_number v) ++ xs) ≡ codes "PGRECORD" ++ (to_le_bytes w16 (version_number w) ++ ys) → (v ≡ w) × (xs ≡ ys)
@@ -147,25 +147,25 @@ front_fits : (version : Version) → AreBytes (codes "PGRECORD" ++ to_le_bytes w
 front_fits versions.One = (omega arith, (omega arith, (omega arith, (omega arith, (omega arith, (omega arith, (omega arith, (omega arith, (omega arith, (omega arith, tt))))))))))
 front_fits versions.Two = (omega arith, (omega arith, (omega arith, (omega arith, (omega arith, (omega arith, (omega arith, (omega arith, (omega arith, (omega arith, tt))))))))))
 
-settings_take : (version : Version) (bytes : List ℕ) (x : Head × List ℕ) → IsBytes bytes → header_behind version bytes ≡ Ok x → Takes bytes (settings_tail x.0) x.1 × IsHead x.0 × (version ≡ x.0.version)
+settings_take : (version : Version) (bytes : List ℕ) (x : Head × List ℕ) → IsBytes bytes → header_behind version bytes ≡ Ok x → Takes bytes (settings_tail x.0) x.1 × IsHead x.0 × (version ≡ x.0.version) × HoldsToAll x.0
 settings_take version bytes x fits e =
     let all : List ℕ = codes "PGRECORD" ++ (to_le_bytes w16 (version_number version) ++ bytes) in
     let all_fit : IsBytes all = bytes_at all (all_append (λ (b : ℕ). b < 256) (codes "PGRECORD" ++ to_le_bytes w16 (version_number version)) bytes (front_fits version) (all_bytes bytes fits)) in
     let t = header_takes all x all_fit (as_header version bytes ∙ e) in
     let parts : all ≡ codes "PGRECORD" ++ (to_le_bytes w16 (version_number x.0.version) ++ (settings_tail x.0 ++ x.1)) = t.0.parts ∙ ap (λ (w : List ℕ). w ++ x.1) (old_header x.0) in
     let same = same_front version x.0.version bytes (settings_tail x.0 ++ x.1) parts in
-    (record { parts = same.1; rest_fits = t.0.rest_fits }, t.1, same.0)
+    (record { parts = same.1; rest_fits = t.0.rest_fits }, t.1, same.0, t.2)
 
 -- ---- the whole header
 
-pub spans_header_again : (head : Head) (rest : List ℕ) → IsHead head → spans_header_at (spans_header_bytes head ++ rest) ≡ Ok (head, rest)
+pub spans_header_again : (head : Head) (rest : List ℕ) → IsHead head → HoldsToAll head → spans_header_at (spans_header_bytes head ++ rest) ≡ Ok (head, rest)
 unfolding spans_header_at
-spans_header_again head rest is =
+spans_header_again head rest is all =
     ap (λ (w : List ℕ). spans_header_at (w ++ rest)) (new_header head)
     ∙ (ok_bind _ _ _ (front_again head.version (settings_tail head ++ rest))
-    ∙ settings_again head rest is)
+    ∙ settings_again head rest is all)
 
-pub spans_header_takes : (bytes : List ℕ) (x : Head × List ℕ) → IsBytes bytes → spans_header_at bytes ≡ Ok x → Takes bytes (spans_header_bytes x.0) x.1 × IsHead x.0
+pub spans_header_takes : (bytes : List ℕ) (x : Head × List ℕ) → IsBytes bytes → spans_header_at bytes ≡ Ok x → Takes bytes (spans_header_bytes x.0) x.1 × IsHead x.0 × HoldsToAll x.0
 unfolding spans_header_at
 spans_header_takes bytes x fits e =
     from_bind (spans_front_at bytes) _ x e (λ b b_is e.
@@ -174,4 +174,4 @@ spans_header_takes bytes x fits e =
     let e0 = Takes-then bytes (codes "PGRECORD" ++ to_le_bytes w16 (spans_number b.0)) b.1 (settings_tail x.0) x.1 t1 t2.0 in
     let named : Takes bytes (codes "PGRECORD" ++ (to_le_bytes w16 (spans_number x.0.version) ++ settings_tail x.0)) x.1 =
     subst (λ (v : Version). Takes bytes (codes "PGRECORD" ++ (to_le_bytes w16 (spans_number v) ++ settings_tail x.0)) x.1) t2.2 e0 in
-    (subst (λ (w : List ℕ). Takes bytes w x.1) (sym (new_header x.0)) named, t2.1))
+    (subst (λ (w : List ℕ). Takes bytes w x.1) (sym (new_header x.0)) named, t2.1, t2.3))

@@ -208,7 +208,7 @@ cfg_read bytes x fits e =
     let t0 = byte_takes bytes m fits m_is in
     let t1 = byte_takes m.1 flags t0.0.rest_fits flags_is in
     let width = bounds_of least_maxphyaddr m.0 most_maxphyaddr m_in in
-    let cfg : Cfg = record { flags = record { 0 = flags.0 }; m = m.0 } in
+    let cfg : Cfg = record { flags = record { 0 = flags.0 }; m = m.0; rules = all_rules } in
     let is : IsCfg cfg = record { low = width.0; high = width.1; flags = ltb-true _ _ flags_in } in
     subst (λ (y : Cfg × List ℕ). IsCfg y.0 × IsBytes y.1) (ok_is (cfg, flags.1) x e) (is, t1.0.rest_fits)))
 

@@ -6,7 +6,7 @@ use Rattle.std.proofs.lemmas.Bool.{eqb-true}
 use Rattle.std.proofs.lemmas.List.{append-nil, length-append, nil_from_length}
 use Rattle.pg_event.specs.declared.event.Event.{Event}
 use Rattle.pg_event.specs.declared.refusal.Refusal.TheVariants as refusals
-use Rattle.pg_event.specs.Heads.{Head}
+use Rattle.pg_event.specs.Heads.{Head, HoldsToAll}
 use Rattle.pg_event.specs.Form.{processor_of, broken_rule}
 use Rattle.pg_event.specs.Spelling.{end_bytes, FitsEvent, IsHead}
 use Rattle.pg_event.proofs.Fields.{IsBytes, Takes, Takes-then}
@@ -85,9 +85,9 @@ run_is s same =
     ap (λ (es : List Event). record { head = s.head; events = es; backs = backs_of (timed s) }) events
     ∙ ap (λ (bs : List ℕ). record { head = s.head; events = s.events; backs = bs }) backs
 
-reading_again : (s : Spanned) → IsSpelled s → spanned_reading (spanned_bytes s) ≡ Ok s
+reading_again : (s : Spanned) → IsSpelled s → HoldsToAll s.head → spanned_reading (spanned_bytes s) ≡ Ok s
 unfolding spanned_reading
-reading_again s is =
+reading_again s is all =
     let head : Head = s.head in
     let n : ℕ = length s.events in
     let xs : List Timed = timed s in
@@ -96,7 +96,7 @@ reading_again s is =
     let segments : List ℕ = timed_segments_bytes head 0 n xs in
     let after : List ℕ = segments ++ end_bytes n in
     let first : spans_header_at (spanned_bytes s) ≡ Ok (head, after) =
-    ap spans_header_at (append_assoc (spans_header_bytes head) segments (end_bytes n)) ∙ spans_header_again head after is.spanned.head in
+    ap spans_header_at (append_assoc (spans_header_bytes head) segments (end_bytes n)) ∙ spans_header_again head after is.spanned.head all in
     let are : AreSegments (no_events head) 0 xs = record {
       size = is.spanned.head.size;
       order = omega arith;
@@ -111,9 +111,9 @@ reading_again s is =
     ∙ segments_again n (length after) (no_events head) 0 true xs [] are (omega (arith, count)) (omega (arith, few, long)) (inl refl) in
     bind_on _ _ _ (plain_on _ _ first) ∙ (bind_on _ _ _ whole ∙ ap (λ (t : Spanned). Ok t) (run_is s same))
 
-spelled : (head : Head) (bytes middle : List ℕ) (y : Spanned × List ℕ) → Takes bytes (spans_header_bytes head) middle → IsHead head → TakesSegments (no_events head) 0 true middle y → y.1 ≡ []
+spelled : (head : Head) (bytes middle : List ℕ) (y : Spanned × List ℕ) → Takes bytes (spans_header_bytes head) middle → IsHead head → HoldsToAll head → TakesSegments (no_events head) 0 true middle y → y.1 ≡ []
     → SpellsSpanned bytes y.0
-spelled head bytes middle y first is second nothing =
+spelled head bytes middle y first is all second nothing =
     let xs : List Timed = second.xs in
     let s : Spanned = grown (no_events head) xs in
     let n : ℕ = length (events_of xs) in
@@ -134,7 +134,7 @@ spelled head bytes middle y first is second nothing =
       backs = backs_count xs;
       spans = λ j. let h : slice_index (backs_of xs) j ≤ 0 + j = timed_spans head 0 xs second.are j in omega (arith, h);
     } in
-    let spells : SpellsSpanned bytes s = (record { spanned = spanned; fits = timed_fit head 0 xs second.are; bare = timed_bare head 0 xs second.are }, whole ∙ in_order) in
+    let spells : SpellsSpanned bytes s = (record { spanned = spanned; fits = timed_fit head 0 xs second.are; bare = timed_bare head 0 xs second.are }, whole ∙ in_order, all) in
     subst (SpellsSpanned bytes) second.made spells
 
 reading_takes : (bytes : List ℕ) (s : Spanned) → IsBytes bytes → spanned_reading bytes ≡ Ok s → SpellsSpanned bytes s
@@ -146,12 +146,12 @@ reading_takes bytes s fits e =
     let second : TakesSegments (no_events a.0) 0 true a.1 b = segments_take (length a.1) (no_events a.0) 0 true a.1 b first.0.rest_fits b_is in
     let g = test_from (eqb (length b.1) 0) (Plain refusals.Trailing) b.0 s e in
     let nothing : b.1 ≡ [] = nil_from_length b.1 (eqb-true _ _ g.0) in
-    subst (SpellsSpanned bytes) g.1 (spelled a.0 bytes a.1 b first.0 first.1 second nothing)))
+    subst (SpellsSpanned bytes) g.1 (spelled a.0 bytes a.1 b first.0 first.1 first.2 second nothing)))
 
 -- ---- the laws
 
 pub reading_of_spelling : ReadingOfSpannedSpelling
-reading_of_spelling bytes s spells = ap spanned_reading spells.1 ∙ reading_again s spells.0
+reading_of_spelling bytes s spells = ap spanned_reading spells.1 ∙ reading_again s spells.0 spells.2
 
 pub no_bytes_spell_two : NoBytesSpellTwoRuns
 no_bytes_spell_two bytes r s a b = value_is r s (sym (reading_of_spelling bytes r a) ∙ reading_of_spelling bytes s b)

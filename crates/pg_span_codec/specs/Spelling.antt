@@ -4,7 +4,7 @@ use Rattle.std.specs.List.{flat_map, zip, AllByRecursion}
 use Rattle.std.specs.Int.{w32, to_le_bytes}
 use Rattle.pg_event.specs.declared.event.Event.{Event}
 use Rattle.pg_event.specs.declared.version.Version.{Version}
-use Rattle.pg_event.specs.Heads.{Head}
+use Rattle.pg_event.specs.Heads.{Head, HoldsToAll}
 use Rattle.pg_event.specs.Form.{processor_of}
 use Rattle.pg_event.specs.Spelling.{version_number, processor_bytes, tag_of, start_bytes}
 use Rattle.pg_event.specs.Spelling.{end_bytes, FitsEvent}
@@ -63,5 +63,6 @@ pub record IsSpelled (s : Spanned) : Type 0 where
   pub fits : AllByRecursion FitsEvent s.events
   pub bare : AllByRecursion IsBare s.events
 
+-- no byte says which rules hold: what bytes spell is held to all of them
 abbrev pub SpellsSpanned : List ℕ → Spanned → Type 0
-SpellsSpanned bytes s = IsSpelled s × (bytes ≡ spanned_bytes s)
+SpellsSpanned bytes s = IsSpelled s × (bytes ≡ spanned_bytes s) × HoldsToAll s.head

@@ -4,37 +4,43 @@ use Rattle.std.specs.Prelude.{ℕ, zero, suc, ◌+◌, ◌-◌, Bool, true, fals
 use Rattle.std.specs.Prelude.{nat_lt, if◌then◌else◌, List, [], ◌∷◌, ◌++◌, Option, Some, None}
 use Rattle.std.specs.Prelude.{length, slice_get}
 use Rattle.std.specs.List.{list_any}
+use Rattle.pg_entry.specs.declared.Rules.{Rules}
+use Rattle.pg_entry.specs.declared.Level.TheVariants.{Two}
 use Rattle.pg_event.specs.declared.control.Control.{Control}
 use Rattle.pg_event.specs.declared.event.Event.{Event}
 use Rattle.pg_event.specs.Form.{processor_of}
-use Rattle.pg_event.specs.Invalidation.{translation_key, must_drop_translation}
+use Rattle.pg_event.specs.Invalidation.{structure_key, translation_key, must_drop_structure}
+use Rattle.pg_event.specs.Invalidation.{must_drop_translation}
 use Rattle.pg_event.specs.Values.{control_at}
 use Rattle.pg_spanned.specs.Orders.{Spanned}
 
 -- whether an event, with these control registers before it, must drop each translation of a linear
--- address under a PCID that is not global. One by a page of 4 KB says it of all: what must drop it
--- must also drop those by larger pages, and each paging-structure-cache entry of the address under
--- the PCID
-abbrev pub drops_page : Control → ℕ → ℕ → Event → Bool
-drops_page c pcid la e = must_drop_translation c e (translation_key pcid 12 false la)
+-- address under a PCID that is not global, and each paging-structure-cache entry of the address
+-- under the PCID. A translation by a page of 4 KB and the entry of level 2 say it of all: what must
+-- drop the one must also drop those by larger pages, and what must drop the other those of each level
+abbrev pub drops_page : Rules → Control → ℕ → ℕ → Event → Bool
+drops_page rules c pcid la e =
+    must_drop_translation rules c e (translation_key pcid 12 false la)
+    && must_drop_structure rules c e (structure_key pcid Two la)
 
 -- whether it may leave global ones: there are some only where CR4.PGE is 1, since a change of it
 -- drops all
-abbrev pub keeps_global : Control → ℕ → ℕ → Event → Bool
-keeps_global c pcid la e =
-    c.pge && not (must_drop_translation c e (translation_key pcid 12 true la))
+abbrev pub keeps_global : Rules → Control → ℕ → ℕ → Event → Bool
+keeps_global rules c pcid la e =
+    c.pge && not (must_drop_translation rules c e (translation_key pcid 12 true la))
 
-abbrev pub drops_by : Control → ℕ → ℕ → ℕ → Event → Bool
-drops_by c p pcid la e = processor_of e == p && drops_page c pcid la e
+abbrev pub drops_by : Rules → Control → ℕ → ℕ → ℕ → Event → Bool
+drops_by rules c p pcid la e = processor_of e == p && drops_page rules c pcid la e
 
-abbrev pub drops_by_some : Control → ℕ → ℕ → ℕ → Option Event → Bool
-drops_by_some c p pcid la None = false
-drops_by_some c p pcid la (Some e) = drops_by c p pcid la e
+abbrev pub drops_by_some : Rules → Control → ℕ → ℕ → ℕ → Option Event → Bool
+drops_by_some rules c p pcid la None = false
+drops_by_some rules c p pcid la (Some e) = drops_by rules c p pcid la e
 
 -- whether event i is one of processor p that does
 abbrev pub drops_at : Spanned → ℕ → ℕ → ℕ → ℕ → Bool
 drops_at s p pcid la i =
-    drops_by_some (control_at s.head s.events p i) p pcid la (slice_get s.events i)
+    drops_by_some s.head.cfg.rules (control_at s.head s.events p i) p pcid la
+    (slice_get s.events i)
 
 -- the last number below a bound of which a test holds
 abbrev pub last_below : (ℕ → Bool) → ℕ → Option ℕ

@@ -34,7 +34,7 @@ abbrev pub read_after_at : Spanned → ℕ → ℕ → ℕ → ℕ → Option Ev
 read_after_at s p pcid la d None = None
 read_after_at s p pcid la d (Some e) = Some (record {
   number = d;
-  keeps_global = keeps_global (control_at s.head s.events p d) pcid la e;
+  keeps_global = keeps_global s.head.cfg.rules (control_at s.head s.events p d) pcid la e;
 })
 
 -- after the one that drops what processor p had of the page, if there is one

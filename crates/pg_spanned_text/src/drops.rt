@@ -6,7 +6,11 @@ ghost use Rattle.pg_event.specs.Values.{control_at};
 ghost use Rattle.pg_spanned_text.specs.Drops.{drops_page, keeps_global, drops_by, last_drop};
 ghost use Rattle.pg_spanned_text.specs.Drops.{put_once, put_root, roots};
 
-use pg_event::{Control, Event, controlled, must_drop_translation, processor_of, translation_key};
+use pg_entry::{Level, Rules};
+use pg_event::{
+    Control, Event, controlled, must_drop_structure, must_drop_translation, processor_of,
+    structure_key, translation_key,
+};
 use pg_spanned::{SpannedRun, event_of, started};
 use std::alloc::{AllocError, Global};
 
@@ -28,25 +32,40 @@ pub(crate) fn control_before(run: &SpannedRun, p: u16, number: u32) -> Control
 }
 
 /// Whether an event, with these control registers before it, must drop each translation of a
-/// linear address under a PCID that is not global.
-fn drops_page(control: Control, pcid: u16, la: u64, event: &Event) -> bool
-    ensures { result ≡ drops_page control pcid la event.now }
+/// linear address under a PCID that is not global, and each paging-structure-cache entry of it.
+fn drops_page(rules: Rules, control: Control, pcid: u16, la: u64, event: &Event) -> bool
+    ensures { result ≡ drops_page rules control pcid la event.now }
 {
-    must_drop_translation(control, event, translation_key(pcid, 12, false, la))
+    must_drop_translation(rules, control, event, translation_key(pcid, 12, false, la))
+        && must_drop_structure(rules, control, event, structure_key(pcid, Level::Two, la))
 }
 
 /// Whether global translations of a linear address may stay.
-pub(crate) fn keeps_global(control: Control, pcid: u16, la: u64, event: &Event) -> bool
-    ensures { result ≡ keeps_global control pcid la event.now }
+pub(crate) fn keeps_global(
+    rules: Rules,
+    control: Control,
+    pcid: u16,
+    la: u64,
+    event: &Event,
+) -> bool
+    ensures { result ≡ keeps_global rules control pcid la event.now }
 {
-    control.pge && !must_drop_translation(control, event, translation_key(pcid, 12, true, la))
+    let key = translation_key(pcid, 12, true, la);
+    control.pge && !must_drop_translation(rules, control, event, key)
 }
 
 /// Whether an event of processor `p` must drop each translation of the address that is not global.
-fn drops_by(control: Control, p: u16, pcid: u16, la: u64, event: &Event) -> bool
-    ensures { result ≡ drops_by control p pcid la event.now }
+fn drops_by(
+    rules: Rules,
+    control: Control,
+    p: u16,
+    pcid: u16,
+    la: u64,
+    event: &Event,
+) -> bool
+    ensures { result ≡ drops_by rules control p pcid la event.now }
 {
-    processor_of(event) == p && drops_page(control, pcid, la, event)
+    processor_of(event) == p && drops_page(rules, control, pcid, la, event)
 }
 
 /// The last event of a processor before one with this number that must drop each translation of a
@@ -61,7 +80,7 @@ pub(crate) fn last_drop(run: &SpannedRun, p: u16, pcid: u16, la: u64, number: u3
     let mut last = None;
     for i in 0..number {
         let event = event_of(run, i);
-        if drops_by(control, p, pcid, la, event) {
+        if drops_by(header.cfg.rules, control, p, pcid, la, event) {
             last = Some(i);
         }
         control = controlled(header.cfg.m, p, control, event);

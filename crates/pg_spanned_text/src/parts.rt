@@ -56,10 +56,11 @@ fn read_after(run: &SpannedRun, p: u16, pcid: u16, la: u64, drop: Option<u32>) -
     ensures within { ForSome result (λ after. after.number < length run.now.events) }
 {
     let number = drop?;
+    let rules = run.header().cfg.rules;
     let control = control_before(run, p, number);
     Some(ReadAfter {
         number,
-        keeps_global: keeps_global(control, pcid, la, event_of(run, number)),
+        keeps_global: keeps_global(rules, control, pcid, la, event_of(run, number)),
     })
 }
 

@@ -20,6 +20,6 @@ returns-else-end-number c =
     let leaf : kind_of head.cfg c.args.step.level c.args.step.value ≡ kinds.Leaf c.in-Leaf.frame c.in-Leaf.shift c.in-Leaf.global_bit =
     ap (λ (g : Cfg). kind_of g c.args.step.level c.args.step.value) (sym cfg) ∙ sym c.kind_at-kind.ensures.kind ∙ c.in-Leaf.is in
     let stands : translation_stands head events c.args.p c.args.la c.args.pcid c.in-Leaf.shift c.is_global-global.result r.moment c.args.number ≡ true =
-    survives_within head events c.args.p (λ d e. must_drop_translation d e (translation_key c.args.pcid c.in-Leaf.shift c.is_global-global.result c.args.la)) r.moment c.args.number c.translation_end-end.result (omega (arith, c.if-end-number.false)) c.translation_end-end.ensures.lasts in
+    survives_within head events c.args.p (λ d e. must_drop_translation head.cfg.rules d e (translation_key c.args.pcid c.in-Leaf.shift c.is_global-global.result c.args.la)) r.moment c.args.number c.translation_end-end.result (omega (arith, c.if-end-number.false)) c.translation_end-end.ensures.lasts in
     let told = subst (λ (g : Bool). translation_stands head events c.args.p c.args.la c.args.pcid c.in-Leaf.shift g r.moment c.args.number ≡ true) c.is_global-global.ensures stands in
     subst (λ k. IsDropBy head events c.args.number c.args.p c.args.la c.args.pcid r k None) (sym leaf) told

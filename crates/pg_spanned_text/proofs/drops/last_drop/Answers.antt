@@ -1,4 +1,5 @@
 use Rattle.std.proofs.Common.{◌≡◌, cond, Option, Some, ap, sym, ◌∙◌, Bool}
+use Rattle.pg_entry.specs.declared.Rules.{Rules}
 use Rattle.pg_event.specs.declared.control.Control.{Control}
 use Rattle.pg_event.specs.declared.event.Event.{Event}
 use Rattle.pg_event.specs.Heads.{Head}
@@ -18,10 +19,12 @@ loop-i-preserved c =
     let i = c.loop-i.i in
     let e : Event = c.event_of-event.result.now in
     let same : c.header.inside.cfg.m ≡ s.head.cfg.m = ap (λ (h : Head). h.cfg.m) (c.header.view_is ∙ c.header-header.ensures.header) in
+    let held : c.header.inside.cfg.rules ≡ s.head.cfg.rules = ap (λ (h : Head). h.cfg.rules) (c.header.view_is ∙ c.header-header.ensures.header) in
     let drops : c.drops_by.result ≡ drops_at s p pcid la i =
     c.drops_by.ensures
-    ∙ (ap (λ (k : Control). drops_by k p pcid la e) c.loop-i.invariant.control
-    ∙ sym (ap (λ (o : Option Event). drops_by_some (control_at s.head s.events p i) p pcid la o) c.event_of-event.ensures)) in
+    ∙ ap (λ (r : Rules). drops_by r c.loop-i.control p pcid la e) held
+    ∙ (ap (λ (k : Control). drops_by s.head.cfg.rules k p pcid la e) c.loop-i.invariant.control
+    ∙ sym (ap (λ (o : Option Event). drops_by_some s.head.cfg.rules (control_at s.head s.events p i) p pcid la o) c.event_of-event.ensures)) in
     let now : c.if-drops_by.last ≡ cond c.drops_by.result (Some i) c.loop-i.last =
     elim c.if-drops_by.branch [
       | then-drops_by w ↦ w.last-is ∙ sym (ap (λ (b : Bool). cond b (Some i) c.loop-i.last) w.if-drops_by.true)

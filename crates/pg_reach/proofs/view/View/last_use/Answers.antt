@@ -8,8 +8,8 @@ use Rattle.pg_event.specs.Heads.{Head}
 use Rattle.pg_event.specs.Spelling.{Recorded}
 use Rattle.pg_event.specs.Values.{control_at}
 use Rattle.pg_event.specs.Wants.{uses_last}
-use Rattle.pg_event.specs.Invalidation.{translation_key, must_drop_translation}
-use Rattle.pg_event.specs.Witness.{survives}
+use Rattle.pg_event.specs.Invalidation.{translation_key}
+use Rattle.pg_event.specs.Witness.{translation_survives}
 use Rattle.pg_search.specs.declared.lookup.Lookup.{Lookup}
 use Rattle.pg_search.specs.Lasts.{IsEnd}
 use Rattle.pg_timeline.specs.declared.timeline.Span.{Span}
@@ -43,7 +43,7 @@ ends_there : (c : After-translation_end) → IsEnd (λ w. translation_lasts c.ar
     (c.in-Leaf.global_bit && (control_at c.args.self.now.run.head c.args.self.now.run.events c.args.self.now.walker.p c.args.read).pge) c.args.read w) c.args.read c.translation_end.result
 ends_there c =
     let here : IsEnd (λ u. translation_lasts c.self.inside.seen.now c.self.inside.walker c.in-Leaf.shift c.is_global-global.result c.args.read u) c.args.read c.translation_end.result =
-    subst (λ (k : Lookup). IsEnd (λ u. survives c.self.inside.seen.now.head c.self.inside.seen.now.events k.p (λ d e. must_drop_translation d e (translation_key k.pcid c.in-Leaf.shift c.is_global-global.result k.la)) c.args.read u) c.args.read c.translation_end.result) c.lookup.ensures c.translation_end.ensures in
+    subst (λ (k : Lookup). IsEnd (λ u. translation_survives c.self.inside.seen.now.head c.self.inside.seen.now.events k.p (translation_key k.pcid c.in-Leaf.shift c.is_global-global.result k.la) c.args.read u) c.args.read c.translation_end.result) c.lookup.ensures c.translation_end.ensures in
     let ends : IsEnd (λ u. translation_lasts c.args.self.now.run c.args.self.now.walker c.in-Leaf.shift c.is_global-global.result c.args.read u) c.args.read c.translation_end.result =
     subst (λ (w : Viewed). IsEnd (λ u. translation_lasts w.run w.walker c.in-Leaf.shift c.is_global-global.result c.args.read u) c.args.read c.translation_end.result) c.self.view_is here in
     subst (λ (g : Bool). IsEnd (λ u. translation_lasts c.args.self.now.run c.args.self.now.walker c.in-Leaf.shift g c.args.read u) c.args.read c.translation_end.result) c.is_global-global.ensures ends

@@ -5,8 +5,8 @@ use Rattle.pg_entry.specs.Kinds.{kind_of, table_of}
 use Rattle.pg_event.specs.declared.walk.Parent.{Parent}
 use Rattle.pg_event.specs.Wants.{is_table}
 use Rattle.pg_event.specs.Heads.{Head}
-use Rattle.pg_event.specs.Invalidation.{structure_key, must_drop_structure}
-use Rattle.pg_event.specs.Witness.{survives}
+use Rattle.pg_event.specs.Invalidation.{structure_key}
+use Rattle.pg_event.specs.Witness.{structure_survives}
 use Rattle.pg_search.specs.Lasts.{IsEnd}
 use Rattle.pg_search.specs.declared.lookup.Lookup.{Lookup}
 use Rattle.pg_machine.specs.Machine.{may_cache}
@@ -23,7 +23,7 @@ returns c =
     let head : Head = c.self.inside.seen.now.head in
     let leads : (is_table (kind_of head.cfg c.args.level c.args.entry.0) && may_cache head.version c.args.entry.0) ≡ true = subst (λ (h : Head). (is_table (kind_of h.cfg c.args.level c.args.entry.0) && may_cache h.version c.args.entry.0) ≡ true) c.header-header.ensures.header (sym c.leads_on.ensures ∙ c.if-not-leads_on.false) in
     let ends : IsEnd (λ w. structure_lasts view.run view.walker c.args.level c.args.read w) c.args.read c.structure_end.result =
-    subst (λ (k : Lookup). IsEnd (λ w. survives head view.run.events k.p (λ d e. must_drop_structure d e (structure_key k.pcid c.args.level k.la)) c.args.read w) c.args.read c.structure_end.result) c.lookup.ensures c.structure_end.ensures in
+    subst (λ (k : Lookup). IsEnd (λ w. structure_survives head view.run.events k.p (structure_key k.pcid c.args.level k.la) c.args.read w) c.args.read c.structure_end.result) c.lookup.ensures c.structure_end.ensures in
     subst (λ (v : Viewed). IsNextOf v.run v.walker c.args.level c.args.x.now c.args.entry.0 c.args.from c.args.read
     record { from = c.args.from; to = c.structure_end.result; table = record { table = c.table_of.result; rights = c.combine.result }; latest = c.in_ok-with.field-0 }) c.self.view_is (record {
       is_table = (and_parts _ _ leads).0;

@@ -24,7 +24,7 @@ pub returns-in-Some : goal.returns-in-Some
 returns-in-Some c =
     let head : Head = c.args.self.now.head in
     let events : List Event = c.args.self.now.events in
-    let drop : Control → Event → Bool = λ d e. must_drop_translation d e (translation_key c.args.lookup.pcid c.args.shift c.args.global c.args.lookup.la) in
+    let drop : Control → Event → Bool = λ d e. must_drop_translation head.cfg.rules d e (translation_key c.args.lookup.pcid c.args.shift c.args.global c.args.lookup.la) in
     let stands : IsPast c.self.inside.past.now head events = subst (λ (r : Recorded). IsPast c.self.inside.past.now r.head r.events) c.self.view_is c.self.invariant.stands in
     let first = subst (IsTranslationDrop head events c.args.lookup.p c.args.from (Some c.in-Some.first)) c.translation_key-key.ensures (c.in-Some.ensures.run head events stands) in
     record {
