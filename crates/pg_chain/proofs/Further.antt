@@ -16,10 +16,10 @@ use Rattle.pg_event.specs.declared.event.Want.TheVariants.{Present}
 use Rattle.pg_event.specs.declared.control.Control.{Control}
 use Rattle.pg_event.specs.Heads.{Head}
 use Rattle.pg_event.specs.Values.{mem_at, control_at}
-use Rattle.pg_event.specs.Invalidation.{structure_key, must_drop_structure}
+use Rattle.pg_event.specs.Invalidation.{structure_key}
 use Rattle.pg_event.specs.Walk.{Reading, readings, below, root_of}
 use Rattle.pg_event.specs.Wants.{is_table, is_wanted}
-use Rattle.pg_event.specs.Witness.{leads_to, last_or, survives, structures_survive, is_one_context, tables_accessed}
+use Rattle.pg_event.specs.Witness.{leads_to, last_or, structures_survive, is_one_context, tables_accessed, structure_survives}
 use Rattle.pg_entry.specs.declared.Level.TheVariants.{Four, Three, Two, One}
 use Rattle.pg_inval.specs.Drops.{IsTableLevel}
 use Rattle.pg_chain.specs.declared.steps.Chain.{Chain}
@@ -51,7 +51,7 @@ leads-longer cfg want r (s ∷ rs) y h =
 
 -- the structure entry that a reading gives survives up to another
 abbrev outlives : Head → List Event → ℕ → ℕ → ℕ → Reading → ℕ → Bool
-outlives head events p pcid la r x = survives head events p (λ c e. must_drop_structure c e (structure_key pcid r.level la)) r.moment x
+outlives head events p pcid la r x = structure_survives head events p (structure_key pcid r.level la) r.moment x
 
 survive-longer : (head : Head) (events : List Event) (p pcid la : ℕ) (r : Reading) (rs : List Reading) (y : Reading) → structures_survive head events p pcid la (r ∷ rs) ≡ true →
     structures_survive head events p pcid la (r ∷ (rs ++ y ∷ [])) ≡ outlives head events p pcid la (last_or r rs) y.moment
@@ -150,20 +150,20 @@ abbrev pub further_tested : Head → List Event → ℕ → ℕ → Want → Cha
 further_tested head events p la want c x made =
     tested (is_table (kind_of head.cfg c.end.level c.end.value) && is_wanted want (kind_of head.cfg made.end.level made.end.value))
     ((control_at head events p x).pcid == c.pcid)
-    (survives head events p (λ d e. must_drop_structure d e (structure_key c.pcid c.end.level la)) c.end.moment x) made
+    (structure_survives head events p (structure_key c.pcid c.end.level la) c.end.moment x) made
 
 pub further-made : (head : Head) (events : List Event) (p la : ℕ) (want : Want) (c : Chain) (x : ℕ) (made : Chain) (table wanted context kept : Bool) →
     is_table (kind_of head.cfg c.end.level c.end.value) ≡ table → is_wanted want (kind_of head.cfg made.end.level made.end.value) ≡ wanted →
     ((control_at head events p x).pcid == c.pcid) ≡ context →
-    survives head events p (λ d e. must_drop_structure d e (structure_key c.pcid c.end.level la)) c.end.moment x ≡ kept →
+    structure_survives head events p (structure_key c.pcid c.end.level la) c.end.moment x ≡ kept →
     made ≡ ended c.pcid (c.tables && accessed c.end.value) (entry_read (mem_at events) la (below c.end.level) (parent_of head.cfg.m (reading_of c.end)) x) →
     tested (table && wanted) context kept made ≡ chain_further head events p la c x want
 further-made head events p la want c x made table wanted context kept t w k s is =
     sym (ap (λ b. tested (b && is_wanted want (kind_of head.cfg made.end.level made.end.value)) ((control_at head events p x).pcid == c.pcid)
-    (survives head events p (λ d e. must_drop_structure d e (structure_key c.pcid c.end.level la)) c.end.moment x) made) t
+    (structure_survives head events p (structure_key c.pcid c.end.level la) c.end.moment x) made) t
     ∙ ap (λ b. tested (table && b) ((control_at head events p x).pcid == c.pcid)
-    (survives head events p (λ d e. must_drop_structure d e (structure_key c.pcid c.end.level la)) c.end.moment x) made) w
-    ∙ ap (λ b. tested (table && wanted) b (survives head events p (λ d e. must_drop_structure d e (structure_key c.pcid c.end.level la)) c.end.moment x) made) k
+    (structure_survives head events p (structure_key c.pcid c.end.level la) c.end.moment x) made) w
+    ∙ ap (λ b. tested (table && wanted) b (structure_survives head events p (structure_key c.pcid c.end.level la) c.end.moment x) made) k
     ∙ ap (λ b. tested (table && wanted) context b made) s)
     ∙ ap (λ (d : Chain). further_tested head events p la want c x d) is
 

@@ -8,6 +8,7 @@ use Rattle.pg_event.specs.declared.event.Event.{Event}
 use Rattle.pg_event.specs.declared.event.Event.TheVariants.{Write, Access, Assist, MovCr3, Invlpg, Invpcid, MovCr4Pge}
 use Rattle.pg_event.specs.Heads.{Head}
 use Rattle.pg_entry.specs.Kinds.{marked}
+use Rattle.pg_entry.specs.declared.Rules.{Rules}
 use Rattle.pg_event.specs.declared.event.Outcome.TheVariants.{Page, Fault}
 use Rattle.pg_event.specs.declared.control.Control.{Control}
 use Rattle.pg_event.specs.declared.meaning.Request.{Request}
@@ -47,19 +48,19 @@ changes_memory (changes.Flags addr dirty) = true
 -- an event drops nothing, and changes no control register
 record IsSilent (e : Event) : Type 0 where
   registers : controls.is_change e ≡ false
-  drops : (c : Control) → DropsNothing c e
+  drops : (rules : Rules) (c : Control) → DropsNothing rules c e
 
-write_drops : (p addr value : ℕ) (c : Control) → DropsNothing c (Write p addr value)
-write_drops p addr value c (Structure key) = refl
-write_drops p addr value c (Translation key) = refl
+write_drops : (p addr value : ℕ) (rules : Rules) (c : Control) → DropsNothing rules c (Write p addr value)
+write_drops p addr value rules c (Structure key) = refl
+write_drops p addr value rules c (Translation key) = refl
 
-assist_drops : (p flags la word : ℕ) (moments : List ℕ) (c : Control) → DropsNothing c (Assist p flags la word moments)
-assist_drops p flags la word moments c (Structure key) = refl
-assist_drops p flags la word moments c (Translation key) = refl
+assist_drops : (p flags la word : ℕ) (moments : List ℕ) (rules : Rules) (c : Control) → DropsNothing rules c (Assist p flags la word moments)
+assist_drops p flags la word moments rules c (Structure key) = refl
+assist_drops p flags la word moments rules c (Translation key) = refl
 
-answer_drops : (p flags la page : ℕ) (moments : List ℕ) (c : Control) → DropsNothing c (Access p flags la (Page page) moments)
-answer_drops p flags la page moments c (Structure key) = refl
-answer_drops p flags la page moments c (Translation key) = refl
+answer_drops : (p flags la page : ℕ) (moments : List ℕ) (rules : Rules) (c : Control) → DropsNothing rules c (Access p flags la (Page page) moments)
+answer_drops p flags la page moments rules c (Structure key) = refl
+answer_drops p flags la page moments rules c (Translation key) = refl
 
 writer_silent : (e : Event) → changes_memory (change_of e) ≡ true → IsSilent e
 writer_silent (Write p addr value) h = record { registers = refl; drops = write_drops p addr value }
@@ -75,7 +76,7 @@ IsPast-stored : (old new : Past) (head : Head) (events : List Event) (e : Event)
 IsPast-stored old new head events e silent c d h v = record {
   versions = v;
   controls = rw c (registers.StandsFor-other old.controls head events e h.controls silent.registers);
-  drops = rw d (dropped.StandsFor-other old.drops head events e h.drops silent.drops);
+  drops = rw d (dropped.StandsFor-other old.drops head events e h.drops (silent.drops head.cfg.rules));
 }
 
 pub IsPast-value : (old new : Past) (head : Head) (events : List Event) (addr value : ℕ) (e : Event) → change_of e ≡ changes.Value addr value → new.controls ≡ old.controls → new.drops ≡ old.drops → IsPast old head events → HasMemory new.versions (events ++ e ∷ []) → IsPast new head (events ++ e ∷ [])
@@ -144,7 +145,7 @@ pub IsPast-answered : (past : Past) (head : Head) (events : List Event) (e : Eve
 IsPast-answered past head events (Access p flags la (Page page) moments) h past_is = record {
   versions = memory.StandsFor-other past.versions events (Access p flags la (Page page) moments) past_is.versions (λ a value. refl);
   controls = registers.StandsFor-other past.controls head events (Access p flags la (Page page) moments) past_is.controls refl;
-  drops = dropped.StandsFor-other past.drops head events (Access p flags la (Page page) moments) past_is.drops (answer_drops p flags la page moments);
+  drops = dropped.StandsFor-other past.drops head events (Access p flags la (Page page) moments) past_is.drops (answer_drops p flags la page moments head.cfg.rules);
 }
 IsPast-answered past head events (Access p flags la (Fault code) moments) h past_is = absurd (false≢true h)
 IsPast-answered past head events (Write p addr value) h past_is = absurd (false≢true h)

@@ -8,8 +8,7 @@ ghost use Rattle.pg_event.specs.Form.{processor_of};
 ghost use Rattle.pg_event.specs.Heads.{Head};
 ghost use Rattle.pg_event.specs.Spelling.{IsHead};
 ghost use Rattle.pg_event.specs.Values.{written, mem_at, control_at};
-ghost use Rattle.pg_event.specs.Invalidation.{must_drop_structure, must_drop_translation};
-ghost use Rattle.pg_event.specs.Witness.{survives};
+ghost use Rattle.pg_event.specs.Witness.{structure_survives, translation_survives};
 ghost use Rattle.pg_entry.specs.Kinds.{IsPageShift};
 ghost use Rattle.pg_timeline.specs.Timelines.{IsSpan};
 ghost use Rattle.pg_inval.specs.Drops.{IsTableLevel};
@@ -216,7 +215,8 @@ impl Past {
             moment ≡ length events → OnErr result (IsPast self.new head events)) }
     {
         let before = self.controls.latest(processor_of(event));
-        match self.drops.note_later(moment, event, before) {
+        let rules = self.controls.cfg().rules;
+        match self.drops.note_later(rules, moment, event, before) {
             Err(refused) => Err(refused),
             Ok(()) => match self.controls.note(moment, event) {
                 Err(refused) => {
@@ -336,7 +336,7 @@ impl Past {
     pub fn translation_outlasts(&self, p: u16, key: TranslationKey, from: u32) -> bool
         requires { IsPageShift key.shift }
         ensures run { IsTrue result → (to : ℕ) → InEachRun self.now (λ head events.
-            survives head events p (λ c e. must_drop_translation c e key) from to ≡ true) }
+            translation_survives head events p key from to ≡ true) }
     {
         self.drops.translation_outlasts(p, key, from)
     }
@@ -365,8 +365,7 @@ impl Past {
     pub fn structure_survives(&self, p: u16, key: StructureKey, window: Window) -> bool
         requires { IsTableLevel key.level }
         ensures { InEachRun self.now (λ head events.
-            result ≡ survives head events p
-            (λ c e. must_drop_structure c e key) window.from window.to) }
+            result ≡ structure_survives head events p key window.from window.to) }
     {
         self.structure_survives_counted(p, key, window, &mut Probes::new())
     }
@@ -381,8 +380,7 @@ impl Past {
     ) -> bool
         requires { IsTableLevel key.level }
         ensures run { InEachRun self.now (λ head events.
-            result ≡ survives head events p
-            (λ c e. must_drop_structure c e key) window.from window.to) }
+            result ≡ structure_survives head events p key window.from window.to) }
         ensures probes { (probes.old ≤ probes.new) × (probes.new ≤ probes.old + 102) }
     {
         !self.drops.structure_dropped_counted(p, key, window, probes)
@@ -394,7 +392,7 @@ impl Past {
     pub(crate) fn structure_outlasts(&self, p: u16, key: StructureKey, from: u32) -> bool
         requires { IsTableLevel key.level }
         ensures { IsTrue result → (to : ℕ) → InEachRun self.now (λ head events.
-            survives head events p (λ c e. must_drop_structure c e key) from to ≡ true) }
+            structure_survives head events p key from to ≡ true) }
     {
         self.drops.structure_outlasts(p, key, from)
     }
@@ -410,7 +408,7 @@ impl Past {
     ) -> Option<u32>
         requires { IsTableLevel key.level }
         ensures run { InEachRun self.now (λ head events. IsFirstDrop
-            (λ a b. not (survives head events p (λ c e. must_drop_structure c e key) a b))
+            (λ a b. not (structure_survives head events p key a b))
             from (2 ^ 32 - 1) result) }
         ensures probes { (probes.old ≤ probes.new) × (probes.new ≤ probes.old + 102) }
     {
@@ -428,7 +426,7 @@ impl Past {
     ) -> Option<u32>
         requires { IsPageShift key.shift }
         ensures run { InEachRun self.now (λ head events. IsFirstDrop
-            (λ a b. not (survives head events p (λ c e. must_drop_translation c e key) a b))
+            (λ a b. not (translation_survives head events p key a b))
             from (2 ^ 32 - 1) result) }
         ensures probes { (probes.old ≤ probes.new) × (probes.new ≤ probes.old + 102) }
     {

@@ -2,8 +2,7 @@
 
 ghost use Rattle.std.specs.Prelude.{◌≡◌, ◌-◌, ◌<◌, ◌≤◌, ◌^◌, ℕ, Bool, IfSome, IsTrue, not};
 ghost use Rattle.pg_event.specs.Values.{mem_at, control_at};
-ghost use Rattle.pg_event.specs.Invalidation.{must_drop_structure, must_drop_translation};
-ghost use Rattle.pg_event.specs.Witness.{survives};
+ghost use Rattle.pg_event.specs.Witness.{structure_survives, translation_survives};
 ghost use Rattle.pg_entry.specs.Kinds.{IsPageShift};
 ghost use Rattle.pg_inval.specs.Drops.{IsTableLevel};
 ghost use Rattle.pg_inval.specs.Lists.{IsFirstDrop, IsLeastBetween};
@@ -376,8 +375,7 @@ impl<'a> Reader<'a> {
         requires { IsTableLevel key.level }
         ensures past { self.new ≡ self.old }
         ensures run { InEachRun self.old (λ head events.
-            result ≡ survives head events p
-            (λ c e. must_drop_structure c e key) window.from window.to) }
+            result ≡ structure_survives head events p key window.from window.to) }
     {
         if self.space_drops.is_empty() {
             return self
@@ -396,7 +394,7 @@ impl<'a> Reader<'a> {
         requires { IsPageShift key.shift }
         ensures past { self.new ≡ self.old }
         ensures run { InEachRun self.old (λ head events. IsFirstDrop
-            (λ a b. not (survives head events p (λ c e. must_drop_translation c e key) a b))
+            (λ a b. not (translation_survives head events p key a b))
             from (2 ^ 32 - 1) result) }
     {
         if self.space_drops.is_empty() {
@@ -415,8 +413,7 @@ impl<'a> Reader<'a> {
         requires { IsTableLevel key.level }
         ensures past { self.new ≡ self.old }
         ensures run { InEachRun self.old (λ head events.
-            result ≡ survives head events p
-            (λ c e. must_drop_structure c e key) window.from window.to) }
+            result ≡ structure_survives head events p key window.from window.to) }
     {
         let before = self.probes.entries();
         let survives = self.survives_in(p, key, window);
@@ -435,7 +432,7 @@ impl<'a> Reader<'a> {
         requires { IsPageShift key.shift }
         ensures past { self.new ≡ self.old }
         ensures run { InEachRun self.old (λ head events. IsFirstDrop
-            (λ a b. not (survives head events p (λ c e. must_drop_translation c e key) a b))
+            (λ a b. not (translation_survives head events p key a b))
             from (2 ^ 32 - 1) result) }
     {
         let before = self.probes.entries();

@@ -1,6 +1,5 @@
 use Rattle.std.proofs.Common.{◌-◌, ◌^◌, not, ap, sym, subst, ◌∙◌}
-use Rattle.pg_event.specs.Witness.{survives}
-use Rattle.pg_event.specs.Invalidation.{must_drop_structure}
+use Rattle.pg_event.specs.Witness.{structure_survives}
 use Rattle.pg_inval.specs.declared.space.Space.{Space}
 use Rattle.pg_inval.specs.Spaces.{IsSpaceDrop, space_keys, structure_space}
 use Rattle.pg_inval.specs.Lists.{has_among}
@@ -26,4 +25,4 @@ returns-clause-run c = λ head events h.
     let a = c.args in
     let here = subst (λ (x : Past). IsPast x head events) (sym (c.self-2.view_is ∙ c.space_drop-all.ensures.past)) h in
     ap not (c.structure_dropped_beside.ensures.run head events here.drops)
-    ∙ not-not (survives head events a.p (λ d e. must_drop_structure d e a.key) a.window.from a.window.to)
+    ∙ not-not (structure_survives head events a.p a.key a.window.from a.window.to)
