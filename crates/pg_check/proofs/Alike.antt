@@ -35,7 +35,7 @@ pub record AreAlike (n : ℕ) (head : Head) (xs ys : List Event) : Type 0 where
   pub memory : (w a : ℕ) → w ≤ n → mem_at xs w a ≡ mem_at ys w a
   pub controls : (p w : ℕ) → w ≤ n → control_at head xs p w ≡ control_at head ys p w
   pub drops : (p : ℕ) (entry : CacheEntry) (from to : ℕ) → from ≤ n → to ≤ n → MayBeCached entry →
-      survives head xs p (must_drop entry) from to ≡ survives head ys p (must_drop entry) from to
+      survives head xs p (must_drop head.cfg.rules entry) from to ≡ survives head ys p (must_drop head.cfg.rules entry) from to
 
 pub alike-next : (n : ℕ) (head : Head) (xs ys zs : List Event) → AreAlike n head xs ys → AreAlike n head ys zs → AreAlike n head xs zs
 alike-next n head xs ys zs h k = record {
@@ -53,7 +53,7 @@ pub alike-past : (past : Past) (n : ℕ) (head : Head) (xs ys : List Event) → 
 alike-past past n head xs ys h k = record {
   memory = λ w a le. sym (h.versions.values w a) ∙ k.versions.values w a;
   controls = λ p w le. sym (h.controls.controls p w) ∙ k.controls.controls p w;
-  drops = λ p entry from to low high may. not_same (survives head xs p (must_drop entry) from to) (survives head ys p (must_drop entry) from to) _ (h.drops.drops p entry from to may) (k.drops.drops p entry from to may);
+  drops = λ p entry from to low high may. not_same (survives head xs p (must_drop head.cfg.rules entry) from to) (survives head ys p (must_drop head.cfg.rules entry) from to) _ (h.drops.drops p entry from to may) (k.drops.drops p entry from to may);
 }
 
 pub same-head : (past : Past) (head other : Head) (xs ys : List Event) → IsPast past head xs → IsPast past other ys → head ≡ other
@@ -89,7 +89,7 @@ pub alike-longer : (n : ℕ) (head : Head) (xs more : List Event) → n ≤ leng
 alike-longer n head xs more within = record {
   memory = λ w a le. ap (λ (es : List Event). fold (written a) 0 es) (sym (take-append-le w xs more (omega (arith, le, within))));
   controls = λ p w le. longer_controls head xs more p w (omega (arith, le, within));
-  drops = λ p entry from to low high may. longer_drops head xs more p (must_drop entry) from to (omega (arith, low, within)) (omega (arith, high, within));
+  drops = λ p entry from to low high may. longer_drops head xs more p (must_drop head.cfg.rules entry) from to (omega (arith, low, within)) (omega (arith, high, within));
 }
 
 -- ---- what a walk reads
