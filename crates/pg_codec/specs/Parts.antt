@@ -1,5 +1,5 @@
 -- Parts of a record in the pieces in which they are read.
-use Rattle.std.specs.Prelude.{ℕ, ◌≤◌, ◌<◌, Bool, nat_lt, if◌then◌else◌, List, ◌++◌, Option, Ok, Err}
+use Rattle.std.specs.Prelude.{◌≡◌, ℕ, ◌≤◌, ◌<◌, Bool, nat_lt, if◌then◌else◌, List, ◌++◌, Option, Ok, Err}
 use Rattle.std.specs.Prelude.{true, false}
 use Rattle.std.specs.Int.{w32}
 use Rattle.pg_entry.specs.declared.Cfg.{Cfg}
@@ -64,11 +64,12 @@ abbrev pub old_header_at : List ℕ → Part Head
 old_header_at bytes =
     if is_two (version_said bytes) then Err refusals.Version else header_at bytes
 
--- MAXPHYADDR and the flags are within their ranges
+-- MAXPHYADDR and the flags are within their ranges, and the processors are held to all rules
 pub record IsCfg (cfg : Cfg) : Type 0 where
   pub low : least_maxphyaddr ≤ cfg.m
   pub high : cfg.m ≤ most_maxphyaddr
   pub flags : cfg.flags.0 < 16
+  pub rules : cfg.rules ≡ all_rules
 
 -- each field is within its range
 pub record AreSettings (s : Settings) : Type 0 where

@@ -13,7 +13,7 @@ use Rattle.pg_entry.specs.declared.Kind.{Kind}
 use Rattle.pg_entry.specs.declared.Kind.TheVariants as kinds
 use Rattle.pg_entry.specs.declared.Cause.{Cause}
 use Rattle.pg_entry.specs.declared.Cause.TheVariants as causes
-use Rattle.pg_entry.specs.Rules.{holds, AreAmong, fault_translations, fault_globals, fault_structures, invlpg_structures, invpcid_structures}
+use Rattle.pg_entry.specs.Rules.{all_rules, holds, AreAmong, fault_translations, fault_globals, fault_structures, invlpg_structures, invpcid_structures}
 use Rattle.pg_entry.specs.Kinds.{kind_of}
 use Rattle.pg_entry.specs.Permission.{fault_code, is_allowed, is_allowed_user, is_allowed_supervisor}
 use Rattle.pg_event.specs.declared.control.Control.{Control}
@@ -56,35 +56,65 @@ cond_more : (t a b c d : Bool) → (a ≡ true → b ≡ true) → (c ≡ true �
 cond_more true a b c d one other h = one h
 cond_more false a b c d one other h = other h
 
-structures : (fewer more : Rules) → AreAmong fewer more → (c : Control) (e : Event) (s : StructureKey) → must_drop_structure fewer c e s ≡ true → must_drop_structure more c e s ≡ true
-structures fewer more among c (Write p addr value) s h = h
-structures fewer more among c (Access p flags la (Page page) moments) s h = h
-structures fewer more among c (Access p flags la (Fault code) moments) s h =
-    and_more _ _ (structure_matches s la) (and_more (holds fewer fault_structures) (holds more fault_structures) (s.pcid == c.pcid) (among fault_structures)) h
-structures fewer more among c (Assist p flags la word moments) s h = h
-structures fewer more among c (MovCr3 p operand) s h = h
-structures fewer more among c (Invlpg p la) s h =
-    and_more_right (s.pcid == c.pcid) _ _ (or_more (holds fewer invlpg_structures) (holds more invlpg_structures) (structure_matches s la) (among invlpg_structures)) h
-structures fewer more among c (Invpcid p kind pcid la) s h =
-    cond_more (kind == 0) _ _ _ _
-    (and_more _ _ (structure_matches s la) (and_more (holds fewer invpcid_structures) (holds more invpcid_structures) (s.pcid == pcid) (among invpcid_structures))) (λ x. x) h
-structures fewer more among c (MovCr4Pge p on) s h = h
+-- each rule that the one holds a processor to, the other does too
+record AreHeld (fewer more : Rules) : Type 0 where
+  fault_translations_too : holds fewer fault_translations ≡ true → holds more fault_translations ≡ true
+  fault_globals_too : holds fewer fault_globals ≡ true → holds more fault_globals ≡ true
+  fault_structures_too : holds fewer fault_structures ≡ true → holds more fault_structures ≡ true
+  invlpg_too : holds fewer invlpg_structures ≡ true → holds more invlpg_structures ≡ true
+  invpcid_too : holds fewer invpcid_structures ≡ true → holds more invpcid_structures ≡ true
 
-translations : (fewer more : Rules) → AreAmong fewer more → (c : Control) (e : Event) (t : TranslationKey) → must_drop_translation fewer c e t ≡ true → must_drop_translation more c e t ≡ true
-translations fewer more among c (Write p addr value) t h = h
-translations fewer more among c (Access p flags la (Page page) moments) t h = h
-translations fewer more among c (Access p flags la (Fault code) moments) t h =
+structures : (fewer more : Rules) → AreHeld fewer more → (c : Control) (e : Event) (s : StructureKey) → must_drop_structure fewer c e s ≡ true → must_drop_structure more c e s ≡ true
+structures fewer more held c (Write p addr value) s h = h
+structures fewer more held c (Access p flags la (Page page) moments) s h = h
+structures fewer more held c (Access p flags la (Fault code) moments) s h =
+    and_more _ _ (structure_matches s la) (and_more (holds fewer fault_structures) (holds more fault_structures) (s.pcid == c.pcid) held.fault_structures_too) h
+structures fewer more held c (Assist p flags la word moments) s h = h
+structures fewer more held c (MovCr3 p operand) s h = h
+structures fewer more held c (Invlpg p la) s h =
+    and_more_right (s.pcid == c.pcid) _ _ (or_more (holds fewer invlpg_structures) (holds more invlpg_structures) (structure_matches s la) held.invlpg_too) h
+structures fewer more held c (Invpcid p kind pcid la) s h =
+    cond_more (kind == 0) _ _ _ _
+    (and_more _ _ (structure_matches s la) (and_more (holds fewer invpcid_structures) (holds more invpcid_structures) (s.pcid == pcid) held.invpcid_too)) (λ x. x) h
+structures fewer more held c (MovCr4Pge p on) s h = h
+
+translations : (fewer more : Rules) → AreHeld fewer more → (c : Control) (e : Event) (t : TranslationKey) → must_drop_translation fewer c e t ≡ true → must_drop_translation more c e t ≡ true
+translations fewer more held c (Write p addr value) t h = h
+translations fewer more held c (Access p flags la (Page page) moments) t h = h
+translations fewer more held c (Access p flags la (Fault code) moments) t h =
     and_more_right (translation_matches t la) _ _
-    (cond_more t.global (holds fewer fault_globals) (holds more fault_globals) _ _ (among fault_globals)
-    (and_more (holds fewer fault_translations) (holds more fault_translations) (t.pcid == c.pcid) (among fault_translations))) h
-translations fewer more among c (Assist p flags la word moments) t h = h
-translations fewer more among c (MovCr3 p operand) t h = h
-translations fewer more among c (Invlpg p la) t h = h
-translations fewer more among c (Invpcid p kind pcid la) t h = h
-translations fewer more among c (MovCr4Pge p on) t h = h
+    (cond_more t.global (holds fewer fault_globals) (holds more fault_globals) _ _ held.fault_globals_too
+    (and_more (holds fewer fault_translations) (holds more fault_translations) (t.pcid == c.pcid) held.fault_translations_too)) h
+translations fewer more held c (Assist p flags la word moments) t h = h
+translations fewer more held c (MovCr3 p operand) t h = h
+translations fewer more held c (Invlpg p la) t h = h
+translations fewer more held c (Invpcid p kind pcid la) t h = h
+translations fewer more held c (MovCr4Pge p on) t h = h
+
+held_among : (fewer more : Rules) → AreAmong fewer more → AreHeld fewer more
+held_among fewer more among = record {
+  fault_translations_too = among fault_translations;
+  fault_globals_too = among fault_globals;
+  fault_structures_too = among fault_structures;
+  invlpg_too = among invlpg_structures;
+  invpcid_too = among invpcid_structures;
+}
 
 pub fewer_rules_drop_less : FewerRulesDropLess
-fewer_rules_drop_less = record { structures = structures; translations = translations }
+fewer_rules_drop_less = record {
+  structures = λ fewer more among. structures fewer more (held_among fewer more among);
+  translations = λ fewer more among. translations fewer more (held_among fewer more among);
+}
+
+-- all rules drop what any rules do, whatever flags those have besides
+held_by_all : (rules : Rules) → AreHeld rules all_rules
+held_by_all rules = record { fault_translations_too = λ _. refl; fault_globals_too = λ _. refl; fault_structures_too = λ _. refl; invlpg_too = λ _. refl; invpcid_too = λ _. refl }
+
+pub structure_kept : (rules : Rules) (c : Control) (e : Event) (s : StructureKey) → must_drop_structure all_rules c e s ≡ false → must_drop_structure rules c e s ≡ false
+structure_kept rules c e s kept = false_from_ne_true (must_drop_structure rules c e s) (λ yes. false≢true (sym kept ∙ structures rules all_rules (held_by_all rules) c e s yes))
+
+pub translation_kept : (rules : Rules) (c : Control) (e : Event) (t : TranslationKey) → must_drop_translation all_rules c e t ≡ false → must_drop_translation rules c e t ≡ false
+translation_kept rules c e t kept = false_from_ne_true (must_drop_translation rules c e t) (λ yes. false≢true (sym kept ∙ translations rules all_rules (held_by_all rules) c e t yes))
 
 -- ---- what survives
 
@@ -116,7 +146,7 @@ structures_fewer head fewer events p pcid la (r ∷ s ∷ rs) among h =
     let parts = and_parts (survives head events p (λ c e. must_drop_structure head.cfg.rules c e key) r.moment s.moment) (structures_survive head events p pcid la (s ∷ rs)) h in
     and_from _ _
     (survives_fewer head fewer events p (λ c e. must_drop_structure fewer c e key) (λ c e. must_drop_structure head.cfg.rules c e key) r.moment s.moment
-    (λ c e. structures fewer head.cfg.rules among c e key) parts.0)
+    (λ c e. structures fewer head.cfg.rules (held_among fewer head.cfg.rules among) c e key) parts.0)
     (structures_fewer head fewer events p pcid la (s ∷ rs) among parts.1)
 
 -- ---- what looks at no rule
@@ -199,7 +229,7 @@ end_fewer head fewer events c pcid r (kinds.Leaf frame shift global_bit) among h
     (survives (with_rules head fewer) events c.p (λ d e. must_drop_translation fewer d e key) r.moment c.number)
     reasons.TranslationDropped (cond foreign (Some reasons.ForeignPcid) (leaf head.cfg))
     (survives_fewer head fewer events c.p (λ d e. must_drop_translation fewer d e key) (λ d e. must_drop_translation head.cfg.rules d e key) r.moment c.number
-    (λ d e. translations fewer head.cfg.rules among d e key)) h
+    (λ d e. translations fewer head.cfg.rules (held_among fewer head.cfg.rules among) d e key)) h
 end_fewer head fewer events c pcid r kinds.Absent among h = same_fault head.cfg fewer c causes.Absent r.moment c.outcome ∙ h
 end_fewer head fewer events c pcid r kinds.Reserved among h = same_fault head.cfg fewer c causes.Reserved r.moment c.outcome ∙ h
 end_fewer head fewer events c pcid r (kinds.Table addr) among h = h

@@ -1,11 +1,14 @@
--- What an event says, as values: what it asks of a walk, what it does to memory, and what it
--- invalidates.
+-- What an event says, as values: what it asks of a walk, what it does to memory and to control
+-- registers, and what it invalidates.
 use Rattle.std.specs.Prelude.{ℕ, Bool, true, false, not, ◌&&◌, ◌||◌, ◌==◌, if◌then◌else◌}
 use Rattle.pg_entry.specs.Kinds.{marked}
 use Rattle.pg_event.specs.declared.event.Event.{Event}
 use Rattle.pg_event.specs.declared.event.Event.TheVariants as events
 use Rattle.pg_event.specs.declared.keys.StructureKey.{StructureKey}
 use Rattle.pg_event.specs.declared.keys.TranslationKey.{TranslationKey}
+use Rattle.pg_event.specs.declared.control.Control.{Control}
+use Rattle.pg_event.specs.declared.control.ControlChange.{ControlChange}
+use Rattle.pg_event.specs.declared.control.ControlChange.TheVariants as registers
 use Rattle.pg_event.specs.declared.meaning.Request.{Request}
 use Rattle.pg_event.specs.declared.meaning.Request.TheVariants as requests
 use Rattle.pg_event.specs.declared.meaning.MemoryChange.{MemoryChange}
@@ -15,6 +18,7 @@ use Rattle.pg_event.specs.declared.invalidation.Invalidation.TheVariants.{Nothin
 use Rattle.pg_event.specs.declared.invalidation.Invalidation.TheVariants.{Pcid, Everything}
 use Rattle.pg_event.specs.Form.{access_kind, says_dirty}
 use Rattle.pg_event.specs.Invalidation.{structure_matches, translation_matches}
+use Rattle.pg_event.specs.Values.{loaded}
 
 -- what an event asks of a walk
 abbrev pub request_of : Event → Request
@@ -37,6 +41,28 @@ change_of (events.MovCr3 p operand) = changes.Nothing
 change_of (events.Invlpg p la) = changes.Nothing
 change_of (events.Invpcid p kind pcid la) = changes.Nothing
 change_of (events.MovCr4Pge p on) = changes.Nothing
+
+-- what an event does to the control registers of its processor
+abbrev pub control_change_of : Event → ControlChange
+control_change_of (events.Write p addr value) = registers.Nothing
+control_change_of (events.Access p flags la outcome moments) = registers.Nothing
+control_change_of (events.Assist p flags la word moments) = registers.Nothing
+control_change_of (events.MovCr3 p operand) = registers.Cr3 operand
+control_change_of (events.Invlpg p la) = registers.Nothing
+control_change_of (events.Invpcid p kind pcid la) = registers.Nothing
+control_change_of (events.MovCr4Pge p on) = registers.Pge on
+
+-- the control registers after a change of them
+abbrev pub with_change : ℕ → Control → ControlChange → Control
+with_change m c registers.Nothing = c
+with_change m c (registers.Cr3 operand) = loaded m operand c.pge
+with_change m c (registers.Pge on) = record c { pge = on }
+
+-- whether it may change them
+abbrev pub changes_some : ControlChange → Bool
+changes_some registers.Nothing = false
+changes_some (registers.Cr3 operand) = true
+changes_some (registers.Pge on) = true
 
 -- the value at an address after a change
 abbrev pub changed : ℕ → ℕ → MemoryChange → ℕ
@@ -76,3 +102,11 @@ names_some (Address pcid la structures translations globals) =
 names_some (Page pcid la) = true
 names_some (Pcid pcid) = true
 names_some (Everything globals) = true
+
+-- whether an invalidation of an address says that structure entries go, and translations too
+abbrev pub is_whole : Invalidation → Bool
+is_whole Nothing = true
+is_whole (Address pcid la structures translations globals) = structures && translations
+is_whole (Page pcid la) = true
+is_whole (Pcid pcid) = true
+is_whole (Everything globals) = true

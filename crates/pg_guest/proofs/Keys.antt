@@ -2,6 +2,7 @@
 use Rattle.std.proofs.Common.{◌≡◌, ℕ, ◌==◌, ◌%◌, ◌^◌, Bool, true, false, not, cond, ◌&&◌, ◌||◌, List, refl, ap, sym, ◌∙◌, nat_eq, eq-eqb}
 use Rattle.std.proofs.Math.Path.{fun_ext}
 use Rattle.std.proofs.lemmas.Bool.{and_parts, and_from, eqb-true}
+use Rattle.pg_entry.specs.declared.Rules.{Rules}
 use Rattle.pg_entry.specs.Bits.{has_bit}
 use Rattle.pg_event.specs.declared.control.Control.{Control}
 use Rattle.pg_event.specs.declared.event.Event.{Event}
@@ -31,34 +32,34 @@ and_false3 : (a b : Bool) → (a && b && false) ≡ false
 and_false3 a b = and_false (a && b)
 
 -- of a global translation no event looks at the PCID
-global_alike : (c : Control) (e : Event) (a b shift number : ℕ) → must_drop_translation c e (key_of a shift number true) ≡ must_drop_translation c e (key_of b shift number true)
-global_alike c (Write p addr value) a b shift number = refl
-global_alike c (Access p flags la (Page page) moments) a b shift number = refl
-global_alike c (Access p flags la (Fault code) moments) a b shift number = ap (λ t. (number == bits_from shift la) && t) (or_true (a == c.pcid) ∙ sym (or_true (b == c.pcid)))
-global_alike c (Assist p flags la word moments) a b shift number = refl
-global_alike c (MovCr3 p operand) a b shift number = and_false3 (not (has_bit operand 63)) (a == operand % 2 ^ 12) ∙ sym (and_false3 (not (has_bit operand 63)) (b == operand % 2 ^ 12))
-global_alike c (Invlpg p la) a b shift number = ap (λ t. (number == bits_from shift la) && t) (or_true (a == c.pcid) ∙ sym (or_true (b == c.pcid)))
-global_alike c (Invpcid p kind pcid la) a b shift number =
+global_alike : (rules : Rules) (c : Control) (e : Event) (a b shift number : ℕ) → must_drop_translation rules c e (key_of a shift number true) ≡ must_drop_translation rules c e (key_of b shift number true)
+global_alike rules c (Write p addr value) a b shift number = refl
+global_alike rules c (Access p flags la (Page page) moments) a b shift number = refl
+global_alike rules c (Access p flags la (Fault code) moments) a b shift number = refl
+global_alike rules c (Assist p flags la word moments) a b shift number = refl
+global_alike rules c (MovCr3 p operand) a b shift number = and_false3 (not (has_bit operand 63)) (a == operand % 2 ^ 12) ∙ sym (and_false3 (not (has_bit operand 63)) (b == operand % 2 ^ 12))
+global_alike rules c (Invlpg p la) a b shift number = ap (λ t. (number == bits_from shift la) && t) (or_true (a == c.pcid) ∙ sym (or_true (b == c.pcid)))
+global_alike rules c (Invpcid p kind pcid la) a b shift number =
     ap (λ t. cond (kind == 0) t (cond (kind == 1) ((a == pcid) && false) (cond (kind == 2) true false)))
     (and_false3 (a == pcid) (number == bits_from shift la) ∙ sym (and_false3 (b == pcid) (number == bits_from shift la)))
     ∙ ap (λ t. cond (kind == 0) ((b == pcid) && (number == bits_from shift la) && false) (cond (kind == 1) t (cond (kind == 2) true false)))
     (and_false (a == pcid) ∙ sym (and_false (b == pcid)))
-global_alike c (MovCr4Pge p on) a b shift number = refl
+global_alike rules c (MovCr4Pge p on) a b shift number = refl
 
-drops_alike : (c : Control) (e : Event) (a b shift number : ℕ) (g h : Bool) → same_space (key_of a shift number g) (key_of b shift number h) ≡ true →
-    must_drop_translation c e (key_of a shift number g) ≡ must_drop_translation c e (key_of b shift number h)
-drops_alike c e a b shift number true true same = global_alike c e a b shift number
-drops_alike c e a b shift number true false same = absurd (cc)
-drops_alike c e a b shift number false true same = absurd (cc)
-drops_alike c e a b shift number false false same = ap (λ (q : ℕ). must_drop_translation c e (key_of q shift number false)) (eqb-true a b same)
+drops_alike : (rules : Rules) (c : Control) (e : Event) (a b shift number : ℕ) (g h : Bool) → same_space (key_of a shift number g) (key_of b shift number h) ≡ true →
+    must_drop_translation rules c e (key_of a shift number g) ≡ must_drop_translation rules c e (key_of b shift number h)
+drops_alike rules c e a b shift number true true same = global_alike rules c e a b shift number
+drops_alike rules c e a b shift number true false same = absurd (cc)
+drops_alike rules c e a b shift number false true same = absurd (cc)
+drops_alike rules c e a b shift number false false same = ap (λ (q : ℕ). must_drop_translation rules c e (key_of q shift number false)) (eqb-true a b same)
 
 -- translations of one page in one space survive alike
 pub survives_alike : (head : Head) (es : List Event) (p w n : ℕ) (a b shift number : ℕ) (g h : Bool) → same_space (key_of a shift number g) (key_of b shift number h) ≡ true →
     translation_survives head es p (key_of a shift number g) w n ≡ translation_survives head es p (key_of b shift number h) w n
 survives_alike head es p w n a b shift number g h same =
-    let one : Control → Event → Bool = λ c e. must_drop_translation c e (key_of a shift number g) in
-    let other : Control → Event → Bool = λ c e. must_drop_translation c e (key_of b shift number h) in
-    let alike : one ≡ other = fun_ext (λ (c : Control). fun_ext (λ (e : Event). drops_alike c e a b shift number g h same)) in
+    let one : Control → Event → Bool = λ c e. must_drop_translation head.cfg.rules c e (key_of a shift number g) in
+    let other : Control → Event → Bool = λ c e. must_drop_translation head.cfg.rules c e (key_of b shift number h) in
+    let alike : one ≡ other = fun_ext (λ (c : Control). fun_ext (λ (e : Event). drops_alike head.cfg.rules c e a b shift number g h same)) in
     ap (λ (test : Control → Event → Bool). survives head es p test w n) alike
 
 -- a key that names the entry of another is that key

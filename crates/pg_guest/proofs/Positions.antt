@@ -86,7 +86,7 @@ table_now head es p la pcid at ws own comes usable addr kind = record {
           usable = ap (may_cache head.version) word ∙ usable;
           own = own;
           order = omega arith;
-          stands = survives_now head es p (λ c e. must_drop_structure c e (structure_key pcid at.level a)) (length es);
+          stands = survives_now head es p (λ c e. must_drop_structure head.cfg.rules c e (structure_key pcid at.level a)) (length es);
         };
         level_is = refl;
         position_is = ap (λ (v : ℕ). let to : WalkPosition = record { level = below at.level; table = table_of head.cfg.m v; rights = joined at.rights v } in to) word
@@ -119,7 +119,7 @@ leaf_now head es p la c at ws now comes usable frame shift g kind = record {
           own = ap (λ (d : Control). d.pcid) (sym now);
           space_is = ap (λ (d : Control). same_space key (translation_key c.pcid shift (g && d.pge) a)) (sym now) ∙ space_self c.pcid (g && c.pge);
           order = omega arith;
-          stands = survives_now head es p (λ d e. must_drop_translation d e key) n;
+          stands = survives_now head es p (λ d e. must_drop_translation head.cfg.rules d e key) n;
         }),
       );
 }

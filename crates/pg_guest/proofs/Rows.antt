@@ -1,6 +1,7 @@
 -- Worked runs of recorded processors.
 use Rattle.std.proofs.Common.{◌≡◌, ◌+◌, ℕ, true, false, List, [], ◌∷◌, ◌++◌, refl, Option, Some, None}
 use Rattle.std.specs.Prelude.{slice_get, slice_set, fold, map, replicate}
+use Rattle.pg_entry.specs.Rules.{all_rules}
 use Rattle.pg_event.specs.declared.event.Event.{Event}
 use Rattle.pg_event.specs.declared.event.Event.TheVariants as events
 use Rattle.pg_event.specs.declared.event.Outcome.TheVariants.{Page, Fault}
@@ -32,7 +33,7 @@ recorded head xs ps = (run head xs ps).world.events
 
 -- MAXPHYADDR 40, WP and NXE, and one or two processors
 abbrev one : Version → Head
-one version = record { version = version; cfg = record { flags = record { 0 = 3 }; m = 40 }; segment = 16; processors = (0x1001, true) ∷ [] }
+one version = record { version = version; cfg = record { flags = record { 0 = 3 }; m = 40; rules = all_rules }; segment = 16; processors = (0x1001, true) ∷ [] }
 
 abbrev two : Head
 two = record (one versions.One) { processors = (0x1001, true) ∷ (0x1001, true) ∷ [] }

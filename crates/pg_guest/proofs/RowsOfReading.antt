@@ -2,6 +2,7 @@
 use Rattle.std.proofs.Common.{◌≡◌, true, [], ◌∷◌, refl}
 use Rattle.std.specs.Prelude.{codes, Ok}
 use Rattle.std.specs.Fmt.{digits}
+use Rattle.pg_entry.specs.Rules.{all_rules}
 use Rattle.pg_event.specs.declared.version.Version.TheVariants as versions
 use Rattle.pg_guest.specs.declared.instruction.Instruction.TheVariants.{Write, Access, Invlpg}
 use Rattle.pg_guest.specs.Numbers.{dec_of, hex_of}
@@ -15,7 +16,7 @@ stale_leaf : Scripted
 stale_leaf = record {
   head = record {
     version = versions.One;
-    cfg = record { flags = record { 0 = 3 }; m = 40 };
+    cfg = record { flags = record { 0 = 3 }; m = 40; rules = all_rules };
     segment = 16;
     processors = (0x1001, true) ∷ [];
   };

@@ -188,7 +188,7 @@ head_said s is =
     let processors = map start_words head.processors ++ map task_words s.tasks in
     let segment_words : Words = codes "segment" ∷ dec_word head.segment ∷ [] in
     let machine_words : Words = codes "machine" ∷ dec_word head.cfg.m ∷ settings_words head.cfg.flags.0 in
-    let cfg : IsCfg head.cfg = record { low = ranges.low; high = ranges.high; flags = ranges.flags } in
+    let cfg : IsCfg head.cfg = record { low = ranges.low; high = ranges.high; flags = ranges.flags; rules = is.script.rules } in
     let version = heading_said refusals.FirstLine version_in 1 (codes "pcid-guest" ∷ version_word head.version ∷ []) (machine_words ∷ segment_words ∷ processors) head.version spoken.0 (version_read head.version) in
     let machine = heading_said refusals.Machine machine_in 2 machine_words (segment_words ∷ processors) head.cfg spoken.1.0 (machine_read head.cfg cfg) in
     let segment = heading_said refusals.Segment segment_in 3 segment_words processors head.segment spoken.1.1.0 (segment_read head.segment ranges.size ranges.limit) in

@@ -6,6 +6,7 @@ use Rattle.std.proofs.lemmas.Bool.{le-leb, lt-ltb, eqb-true, eqb-false}
 use Rattle.pg_entry.specs.declared.Op.{Op}
 use Rattle.pg_entry.specs.declared.Op.TheVariants as ops
 use Rattle.pg_entry.specs.declared.AccessKind.{AccessKind}
+use Rattle.pg_entry.specs.declared.Rules.{Rules}
 use Rattle.pg_entry.specs.declared.Cfg.{Cfg}
 use Rattle.pg_event.specs.declared.version.Version.{Version}
 use Rattle.pg_event.specs.declared.version.Version.TheVariants as versions
@@ -80,7 +81,7 @@ machine_read cfg is =
     let high = is.high in
     rw (dec_read cfg.m (settings_words cfg.flags.0) (omega (arith, high)))
     (rw (both_true (le-leb 36 cfg.m is.low) (le-leb cfg.m 52 is.high))
-    (ap (cfg_of cfg.m) (settings_read cfg.flags.0 is.flags)))
+    (ap (cfg_of cfg.m) (settings_read cfg.flags.0 is.flags) ∙ ap (λ (rules : Rules). Ok (record cfg { rules = rules })) (sym is.rules)))
 
 pub segment_read : (size : ℕ) → 1 ≤ size → size ≤ 65536 → segment_in (codes "segment" ∷ dec_word size ∷ []) ≡ Ok size
 unfolding segment_in keyword_at

@@ -1,5 +1,6 @@
 -- What keeps all that a processor caches sound.
 use Rattle.std.proofs.Common.{◌≡◌, ℕ, ◌==◌, Bool, true, false, cond, ◌&&◌, ◌⊎◌, inl, inr, List, [], ◌∷◌, ◌++◌, length, refl, ap, sym, ◌∙◌, subst, Option, Some, None}
+use Rattle.pg_entry.specs.Rules.{all_rules}
 use Rattle.pg_event.specs.declared.control.Control.{Control}
 use Rattle.pg_event.specs.declared.event.Event.{Event}
 use Rattle.pg_event.specs.declared.event.Event.TheVariants.{Write, Access, Assist, MovCr3, Invlpg, Invpcid, MovCr4Pge}
@@ -9,6 +10,7 @@ use Rattle.pg_event.specs.Heads.{Head}
 use Rattle.pg_event.specs.Form.{processor_of}
 use Rattle.pg_event.specs.Values.{controlled, loaded, control_at}
 use Rattle.pg_event.specs.Invalidation.{must_drop_structure, must_drop_translation}
+use Rattle.pg_event.proofs.FewerRules.{structure_kept, translation_kept}
 use Rattle.pg_shadow.specs.declared.entries.KeptLeaf.{KeptLeaf}
 use Rattle.pg_shadow.specs.declared.entries.KeptTable.{KeptTable}
 use Rattle.pg_shadow.specs.Caches.{Caches, same_structure, same_space, same_translation, with_table, with_leaf, after}
@@ -135,11 +137,11 @@ own_sound head es e p s own all = record {
       ∙ ap (λ q. controlled head.cfg.m q s.control e) own
       ∙ ap (λ c. controlled head.cfg.m p c e) all.control ∙ sym (control_pushed head es e p);
   tables = λ key kept h.
-      let parts = none_or (must_drop_structure s.control e key) (s.tables key) kept h in
+      let parts = none_or (must_drop_structure all_rules s.control e key) (s.tables key) kept h in
       table_stays head es e p key kept (all.tables key kept parts.0)
-      (spared s.control (control_at head es p (length es)) (processor_of e == p) (λ c. must_drop_structure c e key) all.control parts.1);
+      (spared s.control (control_at head es p (length es)) (processor_of e == p) (λ c. must_drop_structure head.cfg.rules c e key) all.control (structure_kept head.cfg.rules s.control e key parts.1));
   leaves = λ key kept h.
-      let parts = none_or (must_drop_translation s.control e key) (s.leaves key) kept h in
+      let parts = none_or (must_drop_translation all_rules s.control e key) (s.leaves key) kept h in
       leaf_stays head es e p key kept (all.leaves key kept parts.0)
-      (spared s.control (control_at head es p (length es)) (processor_of e == p) (λ c. must_drop_translation c e key) all.control parts.1);
+      (spared s.control (control_at head es p (length es)) (processor_of e == p) (λ c. must_drop_translation head.cfg.rules c e key) all.control (translation_kept head.cfg.rules s.control e key parts.1));
 }

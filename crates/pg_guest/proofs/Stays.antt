@@ -2,6 +2,7 @@
 use Rattle.std.proofs.Common.{◌≡◌, ℕ, ◌+◌, ◌≤◌, ◌==◌, Bool, List, [], ◌∷◌, ◌++◌, length, ap, sym, ◌∙◌, subst, true, false, ◌&&◌, arith}
 use Rattle.std.proofs.lemmas.Bool.{eqb-true}
 use Rattle.std.proofs.lemmas.List.{length_push}
+use Rattle.pg_entry.specs.declared.Rules.{Rules}
 use Rattle.pg_entry.specs.declared.Level.{Level}
 use Rattle.pg_entry.specs.Kinds.{kind_of, dirty, table_of}
 use Rattle.pg_entry.specs.Permission.{joined}
@@ -29,11 +30,11 @@ position_longer m es rest la at w h =
     ap (λ (v : ℕ). let to : WalkPosition = record { level = below at.level; table = table_of m v; rights = joined at.rights v } in to) (word_longer es rest la at w h)
 
 -- the test by which an event takes out the structure entry of a level
-abbrev takes_structure : ℕ → ℕ → Level → Control → Event → Bool
-takes_structure pcid la level c e = must_drop_structure c e (structure_key pcid level la)
+abbrev takes_structure : Rules → ℕ → ℕ → Level → Control → Event → Bool
+takes_structure rules pcid la level c e = must_drop_structure rules c e (structure_key pcid level la)
 
-abbrev takes_translation : TranslationKey → Control → Event → Bool
-takes_translation key c e = must_drop_translation c e key
+abbrev takes_translation : Rules → TranslationKey → Control → Event → Bool
+takes_translation rules key c e = must_drop_translation rules c e key
 
 link_longer : (head : Head) (es rest : List Event) (p la pcid : ℕ) (at : WalkPosition) (w x : ℕ) → x ≤ length es →
     IsLink head es p la pcid at w x → IsLink head (es ++ rest) p la pcid at w x
@@ -44,7 +45,7 @@ link_longer head es rest p la pcid at w x past h =
       usable = ap (may_cache head.version) word ∙ h.usable;
       own = ap (λ (c : Control). c.pcid) (control_longer head es rest p w early) ∙ h.own;
       order = h.order;
-      stands = survives_longer head es rest p (takes_structure pcid la at.level) w x past h.stands;
+      stands = survives_longer head es rest p (takes_structure head.cfg.rules pcid la at.level) w x past h.stands;
     }
 
 -- no moment of a walk is above a bound of its last one
@@ -85,7 +86,7 @@ key_is key level la same matches =
     ∙ ap (λ (n : ℕ). let k : StructureKey = record { pcid = key.pcid; level = key.level; prefix = n } in k) (sym (eqb-true key.prefix (bits_from (level_shift key.level) la) matches))
 
 pub table_stays : (head : Head) (es : List Event) (e : Event) (p : ℕ) (key : StructureKey) (kept : KeptTable) → IsSoundTable head es p key kept →
-    (processor_of e == p && must_drop_structure (control_at head es p (length es)) e key) ≡ false → IsSoundTable head (es ++ e ∷ []) p key kept
+    (processor_of e == p && must_drop_structure head.cfg.rules (control_at head es p (length es)) e key) ≡ false → IsSoundTable head (es ++ e ∷ []) p key kept
 table_stays head es e p key kept sound spared = record {
   some = sound.some;
   each = λ la matches.
@@ -96,14 +97,14 @@ table_stays head es e p key kept sound spared = record {
       let more : length (es ++ e ∷ []) ≡ length es + 1 = length_push es e in
       let word : word_at (es ++ e ∷ []) la at w ≡ word_at es la at w = word_longer es (e ∷ []) la at w early in
       let spared2 : (processor_of e == p && takes_structure key.pcid la at.level (control_at head es p (length es)) e) ≡ false =
-      ap (λ k. processor_of e == p && must_drop_structure (control_at head es p (length es)) e k) (key_is key at.level la h.level_is matches) ∙ spared in
+      ap (λ k. processor_of e == p && must_drop_structure head.cfg.rules (control_at head es p (length es)) e k) (key_is key at.level la h.level_is matches) ∙ spared in
       record {
         link = record {
           table = ap (λ v. is_table (kind_of head.cfg at.level v)) word ∙ h.link.table;
           usable = ap (may_cache head.version) word ∙ h.link.usable;
           own = ap (λ (c : Control). c.pcid) (control_longer head es (e ∷ []) p w early) ∙ h.link.own;
           order = omega arith;
-          stands = survives_event head es e p (takes_structure key.pcid la at.level) w h.link.stands spared2;
+          stands = survives_event head es e p (takes_structure head.cfg.rules key.pcid la at.level) w h.link.stands spared2;
         };
         level_is = h.level_is;
         position_is = position_longer head.cfg.m es (e ∷ []) la at w early ∙ h.position_is;
@@ -112,7 +113,7 @@ table_stays head es e p key kept sound spared = record {
 }
 
 pub leaf_stays : (head : Head) (es : List Event) (e : Event) (p : ℕ) (key : TranslationKey) (kept : KeptLeaf) → IsSoundLeaf head es p key kept →
-    (processor_of e == p && must_drop_translation (control_at head es p (length es)) e key) ≡ false → IsSoundLeaf head (es ++ e ∷ []) p key kept
+    (processor_of e == p && must_drop_translation head.cfg.rules (control_at head es p (length es)) e key) ≡ false → IsSoundLeaf head (es ++ e ∷ []) p key kept
 leaf_stays head es e p key kept sound spared = record {
   some = sound.some;
   each = λ la matches.
@@ -134,7 +135,7 @@ leaf_stays head es e p key kept sound spared = record {
               own = ap (λ (c : Control). c.pcid) then ∙ h.own;
               space_is = ap (λ (c : Control). same_space key (translation_key given.0 key.shift (h.global_bit && c.pge) la)) then ∙ h.space_is;
               order = omega arith;
-              stands = survives_event head es e p (takes_translation key) w h.stands spared;
+              stands = survives_event head es e p (takes_translation head.cfg.rules key) w h.stands spared;
             })
             kept.moments given.1,
       );

@@ -1,9 +1,10 @@
 -- What the lines before the instructions say by their words.
-use Rattle.std.specs.Prelude.{ℕ, ◌<◌, ◌≤◌, ◌+◌, ◌^◌, Bool, false, nat_lt}
+use Rattle.std.specs.Prelude.{◌≡◌, ℕ, ◌<◌, ◌≤◌, ◌+◌, ◌^◌, Bool, false, nat_lt}
 use Rattle.std.specs.Prelude.{if◌then◌else◌}
 use Rattle.std.specs.Prelude.{List, [], ◌∷◌, codes, Result, Ok, Err}
 use Rattle.std.specs.Str.{bytes_eq}
 use Rattle.pg_entry.specs.declared.Cfg.{Cfg}
+use Rattle.pg_entry.specs.Rules.{all_rules}
 use Rattle.pg_event.specs.declared.version.Version.{Version}
 use Rattle.pg_event.specs.declared.version.Version.TheVariants as versions
 use Rattle.pg_event.specs.Heads.{least_maxphyaddr, most_maxphyaddr, most_segment}
@@ -42,14 +43,16 @@ settings_at words =
     let smap = setting_at (codes "smap") 8 smep.1 in
     (wp.0 + nxe.0 + smep.0 + smap.0, smap.1)
 
--- settings in their ranges
+-- settings in their ranges, of a processor that is held to all rules
 pub record IsCfg (cfg : Cfg) : Type 0 where
   pub low : least_maxphyaddr ≤ cfg.m
   pub high : cfg.m ≤ most_maxphyaddr
   pub flags : cfg.flags.0 < 16
+  pub rules : cfg.rules ≡ all_rules
 
 abbrev pub cfg_of : ℕ → ℕ × Words → Result Cfg ScriptRefusal
-cfg_of m settings = ended (record { flags = record { 0 = settings.0 }; m = m }, settings.1)
+cfg_of m settings =
+    ended (record { flags = record { 0 = settings.0 }; m = m; rules = all_rules }, settings.1)
 
 -- `machine` and MAXPHYADDR, and any of `wp nxe smep smap` in this order
 unfoldable pub machine_in : Words → Result Cfg ScriptRefusal

@@ -3,7 +3,7 @@ use Rattle.std.specs.Prelude.{ℕ, zero, suc, ◌+◌, ◌-◌, ◌≤◌, Bool,
 use Rattle.std.specs.Prelude.{if◌then◌else◌, List, [], ◌∷◌, length, Option, Some, None}
 use Rattle.std.specs.Prelude.{Result, Ok, Err}
 use Rattle.std.specs.List.{AllByRecursion}
-use Rattle.pg_event.specs.Heads.{Head, most_processors}
+use Rattle.pg_event.specs.Heads.{Head, HoldsToAll, most_processors}
 use Rattle.pg_event.specs.Spelling.{IsHead}
 use Rattle.pg_guest.specs.declared.script_refusal.ScriptRefusal.{ScriptRefusal}
 use Rattle.pg_guest.specs.declared.script_refusal.ScriptRefusal.TheVariants as refusals
@@ -156,9 +156,10 @@ reading bytes = do
   tasks ← tasks_at head.0 0 head.1
   Ok (record { head = head.0; tasks = tasks })
 
--- what each script keeps: its header is in range, and its instructions are not too many and well
--- formed under it
+-- what each script keeps: its header is in range and of processors that are held to all rules, and
+-- its instructions are not too many and well formed under it
 pub record IsScript (s : Scripted) : Type 0 where
   pub head : IsHead s.head
+  pub rules : HoldsToAll s.head
   pub few : length s.tasks ≤ most_instructions
   pub well : AllByRecursion (λ task. IsWellFormed s.head task.p task.instruction) s.tasks

@@ -10,7 +10,7 @@ use crate::script_refusal::ScriptRefusal;
 use crate::words::{
     Words, after_keyword, bit_word, dec_word, ended, hex_word, same_bytes, word_of,
 };
-use pg_entry::{Cfg, CfgFlags};
+use pg_entry::{Cfg, CfgFlags, Rules};
 use pg_event::{LEAST_MAXPHYADDR, MOST_MAXPHYADDR, MOST_SEGMENT, Version};
 
 /// `pcid-guest 1` or `pcid-guest 2`.
@@ -69,6 +69,7 @@ pub(crate) fn machine_of(words: &Words) -> Result<Cfg, ScriptRefusal>
         Cfg {
             flags,
             m: maxphyaddr,
+            rules: Rules::ALL,
         },
         &rest,
     )

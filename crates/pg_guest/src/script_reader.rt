@@ -4,7 +4,7 @@ ghost use Rattle.std.specs.Prelude.{◌≡◌, ◌≤◌, ◌<◌, ◌+◌, ◌^
 ghost use Rattle.std.specs.Prelude.{IfOk, OnOk, IfSome};
 ghost use Rattle.std.specs.List.{AllByRecursion};
 ghost use Rattle.pg_event.specs.Spelling.{IsHead};
-ghost use Rattle.pg_event.specs.Heads.{most_segment};
+ghost use Rattle.pg_event.specs.Heads.{HoldsToAll, most_segment};
 ghost use Rattle.pg_guest.specs.Heading.{IsCfg, version_in, machine_in, segment_in, start_in};
 ghost use Rattle.pg_guest.specs.Tasks.{IsWellFormed};
 ghost use Rattle.pg_guest.specs.Reading.{in_line, placed, line_at, heading_at, starts_at};
@@ -203,6 +203,7 @@ pub(crate) fn header_of<'a>(
     ensures header { AgreesOnPart (λ x. (x.0, told_in x.1)) result (lines_in text.now)
         (head_at (lines_in text.now)) }
     ensures range { IfOk result (λ x. IsHead x.0) }
+    ensures rules { IfOk result (λ x. HoldsToAll x.0) }
 {
     let (version, rest) = version_line(text)?;
     let (cfg, rest) = machine_line(&rest)?;

@@ -1,6 +1,7 @@
 -- What an invalidation leaves by the places of entries is what it leaves by their keys.
 use Rattle.std.proofs.Common.{◌≡◌, ℕ, Bool, true, false, nat_eq, ◌&&◌, ◌||◌, cond, List, None, refl, ap, ◌∙◌}
 use Rattle.pg_entry.specs.declared.Level.{Level}
+use Rattle.pg_entry.specs.Rules.{all_rules}
 use Rattle.pg_event.specs.declared.event.Event.{Event}
 use Rattle.pg_event.specs.declared.control.Control.{Control}
 use Rattle.pg_event.specs.declared.keys.StructureKey.{StructureKey}
@@ -8,7 +9,7 @@ use Rattle.pg_event.specs.declared.keys.TranslationKey.{TranslationKey}
 use Rattle.pg_event.specs.declared.invalidation.Invalidation.{Invalidation}
 use Rattle.pg_event.specs.declared.invalidation.Invalidation.TheVariants.{Nothing, Address, Page, Pcid, Everything}
 use Rattle.pg_event.specs.Invalidation.{level_shift, bits_from, must_drop_structure, must_drop_translation}
-use Rattle.pg_event.specs.Meaning.{takes_structure, takes_translation}
+use Rattle.pg_event.specs.Meaning.{takes_structure, takes_translation, is_whole}
 use Rattle.pg_shadow.specs.declared.slot.Slot.{Slot}
 use Rattle.pg_shadow.specs.Slots.{no_slot, bare, left_in}
 use Rattle.pg_shadow.specs.Left.{is_on_path, left_own, global_goes}
@@ -44,21 +45,23 @@ structure_at q l n = record { pcid = q; level = l; prefix = n }
 abbrev translation_at : ℕ → Level → ℕ → TranslationKey
 translation_at q l n = record { pcid = q; shift = level_shift l; number = n; global = false }
 
-left_own-taken : (i : Invalidation) (q : ℕ) (l : Level) (n : ℕ) (s : Slot) → left_own i q l n s ≡ less (takes_structure i (structure_at q l n)) (takes_translation i (translation_at q l n)) s
-left_own-taken Nothing q l n s = refl
-left_own-taken (Address pcid la globals) q l n s = on_path (nat_eq q pcid) (is_on_path l n la) s
-left_own-taken (Page pcid la) q l n s = tables_too (nat_eq q pcid) (is_on_path l n la) s
-left_own-taken (Pcid pcid) q l n s = all_own (nat_eq q pcid) s
-left_own-taken (Everything true) q l n s = refl
-left_own-taken (Everything false) q l n s = refl
+left_own-taken : (i : Invalidation) (q : ℕ) (l : Level) (n : ℕ) (s : Slot) → is_whole i ≡ true → left_own i q l n s ≡ less (takes_structure i (structure_at q l n)) (takes_translation i (translation_at q l n)) s
+left_own-taken Nothing q l n s whole = refl
+left_own-taken (Address pcid la true true globals) q l n s whole = on_path (nat_eq q pcid) (is_on_path l n la) s
+left_own-taken (Address pcid la true false globals) q l n s whole = absurd (cc)
+left_own-taken (Address pcid la false translations globals) q l n s whole = absurd (cc)
+left_own-taken (Page pcid la) q l n s whole = tables_too (nat_eq q pcid) (is_on_path l n la) s
+left_own-taken (Pcid pcid) q l n s whole = all_own (nat_eq q pcid) s
+left_own-taken (Everything true) q l n s whole = refl
+left_own-taken (Everything false) q l n s whole = refl
 
 -- what is left by an event's invalidation is what the event leaves
-pub left_own-event : (i : Invalidation) (c : Control) (e : Event) → ((key : StructureKey) → takes_structure i key ≡ must_drop_structure c e key)
-    → ((key : TranslationKey) → takes_translation i key ≡ must_drop_translation c e key) → (q : ℕ) (l : Level) (n : ℕ) (s : Slot) → left_own i q l n s ≡ left_in c e q false l n s
-left_own-event i c e structures translations q l n s =
-    left_own-taken i q l n s
+pub left_own-event : (i : Invalidation) (c : Control) (e : Event) → is_whole i ≡ true → ((key : StructureKey) → takes_structure i key ≡ must_drop_structure all_rules c e key)
+    → ((key : TranslationKey) → takes_translation i key ≡ must_drop_translation all_rules c e key) → (q : ℕ) (l : Level) (n : ℕ) (s : Slot) → left_own i q l n s ≡ left_in c e q false l n s
+left_own-event i c e whole structures translations q l n s =
+    left_own-taken i q l n s whole
     ∙ ap (λ b. less b (takes_translation i (translation_at q l n)) s) (structures (structure_at q l n))
-    ∙ ap (λ b. less (must_drop_structure c e (structure_at q l n)) b s) (translations (translation_at q l n))
+    ∙ ap (λ b. less (must_drop_structure all_rules c e (structure_at q l n)) b s) (translations (translation_at q l n))
 
 -- ---- global translations
 
@@ -78,7 +81,7 @@ or_false false = refl
 
 pub global_goes-taken : (i : Invalidation) (q shift n : ℕ) → global_goes i shift n ≡ takes_translation i (record { pcid = q; shift = shift; number = n; global = true })
 global_goes-taken Nothing q shift n = refl
-global_goes-taken (Address pcid la globals) q shift n = swapped globals (nat_eq n (bits_from shift la))
+global_goes-taken (Address pcid la structures translations globals) q shift n = swapped globals (nat_eq n (bits_from shift la))
 global_goes-taken (Page pcid la) q shift n = and_true (nat_eq n (bits_from shift la))
 global_goes-taken (Pcid pcid) q shift n = refl
 global_goes-taken (Everything globals) q shift n = or_false globals

@@ -7,6 +7,7 @@ use Rattle.std.proofs.Math.Nat.{mul-mod_left}
 use Rattle.pg_entry.specs.declared.AccessKind.{AccessKind}
 use Rattle.pg_entry.specs.Bits.{field}
 use Rattle.pg_entry.specs.declared.Level.{Level}
+use Rattle.pg_entry.specs.Rules.{all_rules}
 use Rattle.pg_entry.specs.declared.Level.TheVariants.{Four, Three, Two}
 use Rattle.pg_event.specs.declared.event.Event.{Event}
 use Rattle.pg_event.specs.declared.event.Event.TheVariants.{Write, Access, Assist, MovCr3, Invlpg, Invpcid, MovCr4Pge}
@@ -102,10 +103,10 @@ AreInRange-after e s h = record {
   root = controlled-block s.width (processor_of e) s.control e (omega (arith, h.least)) h.root;
   tables = λ k.
       let P : Option KeptTable → Type 0 = λ o. IfSome o (λ t. IsTableAt s.width k.level t.table t.moments) in
-      cond_both (must_drop_structure s.control e k) None (s.tables k) P (λ _. tt) (λ _. h.tables k);
+      cond_both (must_drop_structure all_rules s.control e k) None (s.tables k) P (λ _. tt) (λ _. h.tables k);
   leaves = λ k.
       let P : Option KeptLeaf → Type 0 = λ o. IfSome o (λ l. IsPageAt s.width k.shift l.frame l.moments) in
-      cond_both (must_drop_translation s.control e k) None (s.leaves k) P (λ _. tt) (λ _. h.leaves k);
+      cond_both (must_drop_translation all_rules s.control e k) None (s.leaves k) P (λ _. tt) (λ _. h.leaves k);
 }
 
 -- ---- what is found

@@ -3,6 +3,7 @@ use Rattle.std.proofs.Common.{◌≡◌, ℕ, Bool, true, false, nat_eq, not, �
 use Rattle.std.proofs.lemmas.Bool.{cases_Bool, eqb-true, cond_both, false_from_ne_true, false≢true}
 use Rattle.pg_entry.specs.declared.AccessKind.{AccessKind}
 use Rattle.pg_entry.specs.declared.Level.{Level}
+use Rattle.pg_entry.specs.Rules.{all_rules}
 use Rattle.pg_entry.specs.declared.Level.TheVariants.{Three, Two, One}
 use Rattle.pg_event.specs.declared.event.Event.{Event}
 use Rattle.pg_event.specs.declared.event.Event.TheVariants.{MovCr3, MovCr4Pge}
@@ -14,7 +15,7 @@ use Rattle.pg_event.specs.declared.keys.StructureKey.{StructureKey}
 use Rattle.pg_event.specs.declared.keys.TranslationKey.{TranslationKey}
 use Rattle.pg_event.specs.declared.invalidation.Invalidation.{Invalidation}
 use Rattle.pg_event.specs.Invalidation.{level_shift, must_drop_structure, must_drop_translation}
-use Rattle.pg_event.specs.Meaning.{takes_structure, takes_translation}
+use Rattle.pg_event.specs.Meaning.{takes_structure, takes_translation, is_whole}
 use Rattle.pg_shadow.specs.declared.entries.KeptTable.{KeptTable}
 use Rattle.pg_shadow.specs.declared.entries.KeptLeaf.{KeptLeaf}
 use Rattle.pg_shadow.specs.declared.slot.Slot.{Slot}
@@ -259,9 +260,9 @@ no_global_leaf h pcid shift n page none = leaf_in-none h.globals shift n page no
 -- ---- what an event leaves
 
 left_leaf : (c : Control) (e : Event) (old new : List Sheet) (pcid : ℕ) (s n : ℕ) → ((l : Level) → slot_in new l n ≡ left_in c e pcid false l n (slot_in old l n))
-    → leaf_in new s n ≡ cond (must_drop_translation c e (record { pcid = pcid; shift = s; number = n; global = false })) None (leaf_in old s n)
+    → leaf_in new s n ≡ cond (must_drop_translation all_rules c e (record { pcid = pcid; shift = s; number = n; global = false })) None (leaf_in old s n)
 left_leaf c e old new pcid s n left =
-    let goes : ℕ → Bool = λ m. must_drop_translation c e (record { pcid = pcid; shift = m; number = n; global = false }) in
+    let goes : ℕ → Bool = λ m. must_drop_translation all_rules c e (record { pcid = pcid; shift = m; number = n; global = false }) in
     by_shift-both (λ m x y. x ≡ cond (goes m) None y) (translations new n) (translations old n) s
     (λ l. ap translation_of (left l))
     (λ _ _ _. none_either (goes s) None refl)
@@ -275,17 +276,18 @@ global_leaf-left i old new s n left =
 
 -- an invalidation takes out what an event must drop
 pub record Takes (i : Invalidation) (c : Control) (e : Event) : Type 0 where
-  pub structures : (key : StructureKey) → takes_structure i key ≡ must_drop_structure c e key
-  pub translations : (key : TranslationKey) → takes_translation i key ≡ must_drop_translation c e key
+  pub structures : (key : StructureKey) → takes_structure i key ≡ must_drop_structure all_rules c e key
+  pub translations : (key : TranslationKey) → takes_translation i key ≡ must_drop_translation all_rules c e key
+  pub whole : is_whole i ≡ true
 
 after_leaf : (h : Held) (e : Event) (i : Invalidation) (own : List (ℕ × List Sheet)) (globals : List Sheet) → Takes i h.control e → IsLeftOwn i h.own own → IsLeftGlobals i h.globals globals
-    → (global : Bool) (q s n : ℕ) → leaf_in (cond global globals (space_of own q)) s n ≡ cond (must_drop_translation h.control e (record { pcid = q; shift = s; number = n; global = global })) None (leaf_in (space_at h global q) s n)
+    → (global : Bool) (q s n : ℕ) → leaf_in (cond global globals (space_of own q)) s n ≡ cond (must_drop_translation all_rules h.control e (record { pcid = q; shift = s; number = n; global = global })) None (leaf_in (space_at h global q) s n)
 after_leaf h e i own globals takes left_own left_globals true q s n =
     global_leaf-left i h.globals globals s n left_globals
     ∙ ap (λ t. cond t None (leaf_in h.globals s n)) (global_goes-taken i q s n ∙ takes.translations (record { pcid = q; shift = s; number = n; global = true }))
 after_leaf h e i own globals takes left_own left_globals false q s n =
     left_leaf h.control e (space_of h.own q) (space_of own q) q s n
-    (λ l. left_own.at q l n ∙ left_own-event i h.control e takes.structures takes.translations q l n (slot_in (space_of h.own q) l n))
+    (λ l. left_own.at q l n ∙ left_own-event i h.control e takes.whole takes.structures takes.translations q l n (slot_in (space_of h.own q) l n))
 
 pub seen-after : (h : Held) (e : Event) (i : Invalidation) (own : List (ℕ × List Sheet)) (globals : List Sheet) → Takes i h.control e → IsLeftOwn i h.own own → IsLeftGlobals i h.globals globals
     → seen (record { width = h.width; control = controlled h.width (processor_of e) h.control e; own = own; globals = globals }) ≡ after e (seen h)
@@ -296,7 +298,7 @@ seen-after h e i own globals takes left_own left_globals = λ j. record {
   tables = λ k.
       let was : Slot = slot_in (space_of h.own k.pcid) k.level k.prefix in
       (ap structure_of (left_own.at k.pcid k.level k.prefix)
-      ∙ ap structure_of (left_own-event i h.control e takes.structures takes.translations k.pcid k.level k.prefix was)) j;
+      ∙ ap structure_of (left_own-event i h.control e takes.whole takes.structures takes.translations k.pcid k.level k.prefix was)) j;
   leaves = λ k. after_leaf h e i own globals takes left_own left_globals k.global k.pcid k.shift k.number j;
 }
 

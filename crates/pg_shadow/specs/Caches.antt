@@ -2,6 +2,7 @@
 use Rattle.std.specs.Prelude.{◌≡◌, ℕ, ◌%◌, ◌^◌, ◌<◌, ◌≤◌, Bool, true, false, not, ◌&&◌, ◌||◌}
 use Rattle.std.specs.Prelude.{◌==◌, if◌then◌else◌, List, length, Option, Some, None, IfSome}
 use Rattle.pg_entry.specs.declared.Level.{Level}
+use Rattle.pg_entry.specs.Rules.{all_rules}
 use Rattle.pg_entry.specs.declared.Level.TheVariants.{Four, Three, Two, One}
 use Rattle.pg_event.specs.declared.event.Event.{Event}
 use Rattle.pg_event.specs.declared.control.Control.{Control}
@@ -52,14 +53,14 @@ abbrev pub with_leaf : TranslationKey → KeptLeaf → Caches → Caches
 with_leaf key kept s =
     record s { leaves = λ k. if same_translation key k then Some kept else s.leaves k }
 
--- an event of the processor takes out what it must, and nothing else, and changes the control
--- registers (Intel SDM, vol. 3, 4.10.4.1)
+-- an event of the processor, which is held to all rules, takes out what it must, and nothing else,
+-- and changes the control registers (Intel SDM, vol. 3, 4.10.4.1)
 abbrev pub after : Event → Caches → Caches
 after e s = record {
   width = s.width;
   control = controlled s.width (processor_of e) s.control e;
-  tables = λ k. if must_drop_structure s.control e k then None else s.tables k;
-  leaves = λ k. if must_drop_translation s.control e k then None else s.leaves k;
+  tables = λ k. if must_drop_structure all_rules s.control e k then None else s.tables k;
+  leaves = λ k. if must_drop_translation all_rules s.control e k then None else s.leaves k;
 }
 
 -- the levels whose entries refer to tables

@@ -12,10 +12,11 @@ use Rattle.pg_shadow.specs.Slots.{no_slot, bare}
 abbrev pub is_on_path : Level → ℕ → ℕ → Bool
 is_on_path level number la = number == bits_from (level_shift level) la
 
--- what is left of a slot under a PCID
+-- what is left of a slot under a PCID, where structure entries and translations of an address go
+-- together
 abbrev pub left_own : Invalidation → ℕ → Level → ℕ → Slot → Slot
 left_own Nothing q level number s = s
-left_own (Address pcid la globals) q level number s =
+left_own (Address pcid la structures translations globals) q level number s =
     if q == pcid && is_on_path level number la then no_slot else s
 left_own (Page pcid la) q level number s =
     if q == pcid then (if is_on_path level number la then no_slot else bare s) else s
@@ -25,7 +26,8 @@ left_own (Everything globals) q level number s = no_slot
 -- whether a global translation goes
 abbrev pub global_goes : Invalidation → ℕ → ℕ → Bool
 global_goes Nothing shift number = false
-global_goes (Address pcid la globals) shift number = globals && number == bits_from shift la
+global_goes (Address pcid la structures translations globals) shift number =
+    globals && number == bits_from shift la
 global_goes (Page pcid la) shift number = number == bits_from shift la
 global_goes (Pcid pcid) shift number = false
 global_goes (Everything globals) shift number = globals

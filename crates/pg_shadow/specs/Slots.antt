@@ -1,6 +1,7 @@
 -- What stands at a level for one number.
 use Rattle.std.specs.Prelude.{ℕ, Bool, if◌then◌else◌, Some, None}
 use Rattle.pg_entry.specs.declared.Level.{Level}
+use Rattle.pg_entry.specs.Rules.{all_rules}
 use Rattle.pg_event.specs.declared.event.Event.{Event}
 use Rattle.pg_event.specs.declared.control.Control.{Control}
 use Rattle.pg_event.specs.Invalidation.{level_shift}
@@ -22,14 +23,15 @@ with_kept Neither s = no_slot
 abbrev pub bare : Slot → Slot
 bare s = record s { structure = None }
 
--- what an event leaves of a slot
+-- what an event of a processor that is held to all rules leaves of a slot
 abbrev pub left_in : Control → Event → ℕ → Bool → Level → ℕ → Slot → Slot
 left_in c e pcid global level number s = record {
   structure =
-      if must_drop_structure c e (record { pcid = pcid; level = level; prefix = number })
+      if must_drop_structure all_rules c e
+          (record { pcid = pcid; level = level; prefix = number })
       then None else s.structure;
   translation =
-      if must_drop_translation c e (record {
+      if must_drop_translation all_rules c e (record {
         pcid = pcid;
         shift = level_shift level;
         number = number;

@@ -1,9 +1,10 @@
 ghost use Rattle.std.specs.Prelude.{◌≡◌, ◌+◌, ◌-◌, ◌^◌, ◌<◌, ◌≤◌, ◌&&◌, ℕ, List, length};
-ghost use Rattle.std.specs.Prelude.{slice_get, OnOk, OnErr, None, if◌then◌else◌};
+ghost use Rattle.std.specs.Prelude.{slice_get, OnOk, OnErr, None, true, if◌then◌else◌};
 ghost use Rattle.pg_entry.specs.declared.Level.{Level};
 ghost use Rattle.pg_event.specs.declared.event.Event.TheVariants as events;
 ghost use Rattle.pg_event.specs.declared.event.Outcome.TheVariants as outcomes;
 ghost use Rattle.pg_event.specs.Form.{processor_of};
+ghost use Rattle.pg_event.specs.Meaning.{is_whole};
 ghost use Rattle.pg_event.specs.Spelling.{IsHead};
 ghost use Rattle.pg_event.specs.Values.{started};
 ghost use Rattle.pg_event.specs.Invalidation.{level_shift, structure_key};
@@ -21,7 +22,7 @@ use crate::entries::{Found, KeptLeaf, KeptTable};
 use crate::lookup::chosen;
 use crate::slot::{KeptEntry, Path};
 use crate::space::Space;
-use pg_entry::{AccessKind, Level};
+use pg_entry::{AccessKind, Level, Rules};
 use pg_event::{
     Control, Event, Header, Invalidation, Moments, Outcome, bits_from, controlled, level_shift,
     loaded, processor_of,
@@ -147,8 +148,10 @@ fn remove_own(own: &mut HashMap<u16, Space>, pcid: u16)
     let _ = own.remove(&pcid);
 }
 
-/// Takes out under each PCID what an invalidation names.
+/// Takes out under each PCID what an invalidation names, which by all rules is both structure
+/// entries and translations.
 fn leave_own(own: &mut HashMap<u16, Space>, invalidation: Invalidation)
+    requires { is_whole invalidation ≡ true }
     ensures { IsLeftOwn invalidation own.old.entries own.new.entries }
 {
     match invalidation {
@@ -331,7 +334,7 @@ impl Shadow {
         ensures { seen self.new ≡ after event.now (seen self.old) }
     {
         let control = self.control;
-        let invalidation = event.invalidation(control);
+        let invalidation = event.invalidation(Rules::ALL, control);
         leave_own(&mut self.own, invalidation);
         leave_globals(&mut self.globals, invalidation);
         self.control = controlled(self.maxphyaddr, processor_of(event), control, event);

@@ -6,6 +6,8 @@ use Rattle.std.proofs.lemmas.Bool.{cases_order}
 use Rattle.std.proofs.lemmas.Option.{slice_get-get_or, slice_get_within, get_or_from_slice_get}
 use Rattle.std.proofs.lemmas.List.Elements.{recursion_from_All}
 use Rattle.pg_entry.specs.declared.Cfg.{Cfg}
+use Rattle.pg_entry.specs.declared.Rules.{Rules}
+use Rattle.pg_entry.specs.Rules.{all_rules}
 use Rattle.pg_event.specs.declared.event.Event.{Event}
 use Rattle.pg_event.specs.declared.event.Event.TheVariants.{Write, Access, Assist, MovCr3, Invlpg, Invpcid, MovCr4Pge}
 use Rattle.pg_event.specs.Heads.{Head, most_segment, most_processors}
@@ -30,10 +32,10 @@ head_of first starts = record {
   processors = starts;
 }
 
-same_cfg : (a b : Cfg) → a.m ≡ b.m → a.flags.0 ≡ b.flags.0 → a ≡ b
-same_cfg a b m flags =
-    let made : ℕ → ℕ → Cfg = λ x y. record { flags = record { 0 = x }; m = y } in
-    ap (λ x. made x a.m) flags ∙ ap (λ y. made b.flags.0 y) m
+same_cfg : (a b : Cfg) → a.m ≡ b.m → a.flags.0 ≡ b.flags.0 → a.rules ≡ b.rules → a ≡ b
+same_cfg a b m flags rules =
+    let made : ℕ → ℕ → Rules → Cfg = λ x y z. record { flags = record { 0 = x }; m = y; rules = z } in
+    ap (λ x. made x a.m a.rules) flags ∙ ap (λ y. made b.flags.0 y a.rules) m ∙ ap (made b.flags.0 b.m) rules
 
 -- logs of one processor stand at one place
 one_place : (logs : List Logged) (i j : ℕ) (a b : Logged) → AllPairs Apart logs → slice_get logs i ≡ Some a → slice_get logs j ≡ Some b → a.head.own ≡ b.head.own → i ≡ j
@@ -51,8 +53,8 @@ one_place logs i j a b apart there other own = elim (cases_order i j) [
         let second : get_or logs j a ≡ b = get_or_from_slice_get logs j b a other in
         apart i j a less (slice_get_within logs j b other) (ap (λ (l : Logged). l.head.own) first ∙ (own ∙ ap (λ (l : Logged). l.head.own) (sym second)))
 
-part_of : (first : LogHeader) (logs : List Logged) (starts : List (ℕ × Bool)) (k : ℕ) (log : Logged) → slice_get logs k ≡ Some log → IsLike first log → AllPairs Apart logs → AreStarts logs first.processors starts → IsPartOf (head_of first starts) log.head
-part_of first logs starts k log there like apart are =
+part_of : (first : LogHeader) (logs : List Logged) (starts : List (ℕ × Bool)) (k : ℕ) (log : Logged) → slice_get logs k ≡ Some log → IsLike first log → first.cfg.rules ≡ all_rules → AllPairs Apart logs → AreStarts logs first.processors starts → IsPartOf (head_of first starts) log.head
+part_of first logs starts k log there like rules apart are =
     let within : log.head.own < first.processors = omega (arith, like.is.settings.own, like.alike Processors) in
     let s : IsStartOf logs starts log.head.own = are.each log.head.own within in
     let place : s.place ≡ k = one_place logs s.place k s.log log apart s.there there s.own in
@@ -60,14 +62,14 @@ part_of first logs starts k log there like apart are =
     let one : s.log ≡ log = cc in
     record {
       version = like.alike Version;
-      cfg = same_cfg first.cfg log.head.cfg (like.alike Maxphyaddr) (like.alike Flags);
+      cfg = same_cfg first.cfg log.head.cfg (like.alike Maxphyaddr) (like.alike Flags) (rules ∙ sym like.is.settings.rules);
       processors = are.count ∙ like.alike Processors;
       start = s.start ∙ ap (λ (l : Logged). Some l.head.start) one;
     }
 
-pub of_one_run : (first : LogHeader) (logs : List Logged) (starts : List (ℕ × Bool)) → All (IsLike first) logs → AllPairs Apart logs → AreStarts logs first.processors starts → AreOfOneRun logs (head_of first starts)
-of_one_run first logs starts like apart are = record {
-  parts = λ k d lt. part_of first logs starts k (get_or logs k d) (slice_get-get_or logs k d lt) (like k d lt) apart are;
+pub of_one_run : (first : LogHeader) (logs : List Logged) (starts : List (ℕ × Bool)) → first.cfg.rules ≡ all_rules → All (IsLike first) logs → AllPairs Apart logs → AreStarts logs first.processors starts → AreOfOneRun logs (head_of first starts)
+of_one_run first logs starts rules like apart are = record {
+  parts = λ k d lt. part_of first logs starts k (get_or logs k d) (slice_get-get_or logs k d lt) (like k d lt) rules apart are;
   apart = apart;
   whole = λ p lt. let s : IsStartOf logs starts p = are.each p (omega (arith, lt, are.count)) in record {
     place = s.place;

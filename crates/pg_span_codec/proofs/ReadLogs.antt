@@ -6,6 +6,7 @@ use Rattle.std.specs.Int.{w16, w32, w64, to_le_bytes}
 use Rattle.std.specs.Str.{bytes_eq}
 use Rattle.std.proofs.lemmas.Bool.{and_parts, ltb-true, eqb-true}
 use Rattle.pg_entry.specs.declared.Cfg.{Cfg}
+use Rattle.pg_entry.specs.Rules.{all_rules}
 use Rattle.pg_event.specs.declared.event.Event.{Event}
 use Rattle.pg_event.specs.declared.event.Malformed.{Malformed}
 use Rattle.pg_event.specs.declared.refusal.Refusal.{Refusal}
@@ -209,7 +210,7 @@ cfg_read bytes x fits e =
     let t1 = byte_takes m.1 flags t0.0.rest_fits flags_is in
     let width = bounds_of least_maxphyaddr m.0 most_maxphyaddr m_in in
     let cfg : Cfg = record { flags = record { 0 = flags.0 }; m = m.0; rules = all_rules } in
-    let is : IsCfg cfg = record { low = width.0; high = width.1; flags = ltb-true _ _ flags_in } in
+    let is : IsCfg cfg = record { low = width.0; high = width.1; flags = ltb-true _ _ flags_in; rules = refl } in
     subst (λ (y : Cfg × List ℕ). IsCfg y.0 × IsBytes y.1) (ok_is (cfg, flags.1) x e) (is, t1.0.rest_fits)))
 
 header_read : (bytes : List ℕ) (x : LogHeader × List ℕ) → IsBytes bytes → log_header_at bytes ≡ Ok x → AreLogSettings x.0 × IsBytes x.1
@@ -237,6 +238,7 @@ header_read bytes x fits e =
       few = several.1;
       own = ltb-true _ _ own_in;
       start = t5.0;
+      rules = t2.0.rules;
     } in
     subst (λ (y : LogHeader × List ℕ). AreLogSettings y.0 × IsBytes y.1) (ok_is (head, start.1) x e) (settings, t5.1)))))))
 

@@ -1,6 +1,7 @@
 -- Logs of single processors.
 use Rattle.std.specs.Prelude.{◌≡◌, ℕ, ◌-◌, ◌<◌, ◌≤◌, ◌^◌, List, [], ◌∷◌, None, replicate}
 use Rattle.std.specs.List.{AllByRecursion}
+use Rattle.pg_entry.specs.Rules.{all_rules}
 use Rattle.pg_event.specs.Heads.{Head, most_processors, least_maxphyaddr, most_maxphyaddr}
 use Rattle.pg_event.specs.Heads.{most_segment}
 use Rattle.pg_event.specs.Form.{processor_of, broken_rule}
@@ -27,7 +28,7 @@ alone head = record {
   processors = replicate head.processors head.start;
 }
 
--- each field is within its range
+-- each field is within its range, and the processors are held to all rules
 pub record AreLogSettings (head : LogHeader) : Type 0 where
   pub low : least_maxphyaddr ≤ head.cfg.m
   pub high : head.cfg.m ≤ most_maxphyaddr
@@ -36,6 +37,7 @@ pub record AreLogSettings (head : LogHeader) : Type 0 where
   pub few : head.processors ≤ most_processors head.version
   pub own : head.own < head.processors
   pub start : head.start.0 < 2 ^ head.cfg.m
+  pub rules : head.cfg.rules ≡ all_rules
 
 -- an event that the processor may have logged: it has a spelling
 pub record IsOwn (head : Head) (own : ℕ) (x : Stamped) : Type 0 where

@@ -4,6 +4,7 @@ ghost use Rattle.std.specs.Prelude.{◌≡◌, ◌+◌, ◌-◌, ◌<◌, ◌≤
 ghost use Rattle.std.specs.Prelude.{[], Err, IfOk, MatchResult};
 ghost use Rattle.std.specs.List.{All, AllAdjacentBelow};
 ghost use Rattle.pg_event.specs.Form.{broken_rule};
+ghost use Rattle.pg_event.specs.Heads.{HoldsToAll};
 ghost use Rattle.pg_event.specs.Spelling.{IsHead};
 ghost use Rattle.pg_spanned.specs.Spanned.{IsSpanned};
 ghost use Rattle.pg_span_codec.specs.Spelling.{IsSpelled};
@@ -76,6 +77,7 @@ pub fn merge_logs(alloc: Global, logs: &[Log], error: u64) -> Result<SpannedRun,
         (λ run. AreOfOneRun logs.now run.head × IsMerged logs.now error run)
         (λ e. Explains logs.now e) }
     ensures spelled { IfOk result (λ run. IsSpelled run) }
+    ensures rules { IfOk result (λ run. HoldsToAll run.head) }
     ensures logs { IfOk result (λ _. All IsLog logs.now) }
     ensures none { logs.now ≡ [] → result ≡ Err NoLogs }
 {

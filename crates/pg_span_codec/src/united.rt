@@ -3,6 +3,7 @@
 ghost use Rattle.std.specs.Prelude.{◌≡◌, ◌≢◌, ◌<◌, ◌≤◌, ℕ, Some, length, slice_get, MatchOption};
 ghost use Rattle.std.specs.Prelude.{MatchResult, IfOk, slice_index_or, [], Err};
 ghost use Rattle.std.specs.List.{All, AllPairs};
+ghost use Rattle.pg_event.specs.Heads.{HoldsToAll};
 ghost use Rattle.pg_event.specs.Spelling.{IsHead};
 ghost use Rattle.pg_span_codec.specs.declared.log_error.MergeError.TheVariants as errors;
 ghost use Rattle.pg_span_codec.specs.Logs.{Logged, IsLog};
@@ -112,6 +113,7 @@ pub(crate) fn united(alloc: Global, logs: &[Log]) -> Result<Header, MergeError>
         (λ head. AreOfOneRun logs.now head)
         (λ e. Explains logs.now e) }
     ensures head { IfOk result (λ head. IsHead head) }
+    ensures rules { IfOk result (λ head. HoldsToAll head) }
     ensures logs { IfOk result (λ _. All IsLog logs.now) }
     ensures none { logs.now ≡ [] → result ≡ Err errors.NoLogs }
 {

@@ -1,5 +1,6 @@
 -- Worked rows: what reads come to (Intel SDM, vol. 3, 4.5 to 4.8).
 use Rattle.std.proofs.Common.{◌≡◌, ℕ, Bool, true, false, List, [], ◌∷◌, Option, Some, None, refl}
+use Rattle.pg_entry.specs.Rules.{all_rules}
 use Rattle.pg_entry.specs.declared.Op.{Op}
 use Rattle.pg_entry.specs.declared.Op.TheVariants as ops
 use Rattle.pg_entry.specs.declared.Level.{Level}
@@ -18,7 +19,7 @@ use Rattle.pg_world.specs.Walks.{found_by}
 abbrev head_of : Version → Head
 head_of version = record {
   version = version;
-  cfg = record { flags = record { 0 = 3 }; m = 40 };
+  cfg = record { flags = record { 0 = 3 }; m = 40; rules = all_rules };
   segment = 16;
   processors = (0x1001, true) ∷ [];
 }
