@@ -1,6 +1,7 @@
 -- The record with moments that were found for its events.
 use Rattle.std.proofs.Common.{List, refl}
 use Rattle.pg_event.specs.declared.event.Event.{Event}
+use Rattle.pg_event.specs.Heads.{HoldsToAll}
 use Rattle.pg_event.specs.Spelling.{Recorded, IsRecord, record_bytes}
 use Rattle.pg_check.specs.Kept.{AreWellFormed}
 use Rattle.pg_run_of.proofs.Whole.{accepted_events_run}
@@ -18,6 +19,6 @@ is_named r found well h =
       named,
       record { head = refl; same = h.same; accepted = h.good; run = accepted_events_run r.head found formed h.good },
       refl,
-      λ (is : IsRecord r).
-          one (record_bytes named) named (found_record r found is h, refl),
+      λ (is : IsRecord r) (all : HoldsToAll r.head).
+          one (record_bytes named) named (found_record r found is h, refl, all),
     )

@@ -10,7 +10,8 @@ use Rattle.pg_event.specs.declared.event.Event.TheVariants.{Write, Access, Assis
 use Rattle.pg_event.specs.declared.event.Malformed.TheVariants as rules
 use Rattle.pg_event.specs.declared.version.Version.{Version}
 use Rattle.pg_event.specs.declared.version.Version.TheVariants as versions
-use Rattle.pg_event.specs.Heads.{Head, most_processors}
+use Rattle.pg_entry.specs.Rules.{all_rules}
+use Rattle.pg_event.specs.Heads.{Head, HoldsToAll, most_processors}
 use Rattle.pg_event.specs.Form.{broken_rule, breaks_assist, breaks_word_address, breaks_linear_address}
 use Rattle.pg_event.specs.Witness.{first_bad}
 use Rattle.pg_event.specs.Spelling.{Recorded, Spells, IsHead, IsRecord, record_bytes, header_bytes, segments_bytes, end_bytes}
@@ -115,8 +116,8 @@ still_record r is = record {
   well = all_well r.head r.events is.well;
 }
 
-spelled : (r : Recorded) → IsRecord r → SpellsOne (record_bytes (upgraded r)) (upgraded r)
-spelled r is = one (record_bytes (upgraded r)) (upgraded r) (still_record r is, refl)
+spelled : (r : Recorded) → IsRecord r → HoldsToAll r.head → SpellsOne (record_bytes (upgraded r)) (upgraded r)
+spelled r is all = one (record_bytes (upgraded r)) (upgraded r) (still_record r is, refl, all)
 
 -- the header of the new record, made of the parts of the old one
 pub two_head : (old seen new : Head) (processors : List (ℕ × Bool)) → seen ≡ old → processors ≡ seen.processors → new ≡ record (two seen) { processors = processors } → new ≡ two old
@@ -148,7 +149,7 @@ module _ (input output : Change) (r : Recorded) (reads : IfSome input.old.bytes 
               one bytes r reads.0,
               is_old bytes r reads.0 reads.1,
               record_bytes (upgraded r),
-              spelled r reads.0.0,
+              spelled r reads.0.0 reads.0.2,
               (
                 subst W is wrote,
                 its,
@@ -167,7 +168,7 @@ module _ (input output : Change) (r : Recorded) (reads : IfSome input.old.bytes 
         gives None e reads wrote written = tt
         gives (Some bytes) (errors.Refused d) reads wrote written = absurd wrote
         gives (Some bytes) errors.Device reads wrote written =
-            inr ((read, written), (r, one bytes r reads.0, is_old bytes r reads.0 reads.1, record_bytes (upgraded r), spelled r reads.0.0, wrote))
+            inr ((read, written), (r, one bytes r reads.0, is_old bytes r reads.0 reads.1, record_bytes (upgraded r), spelled r reads.0.0 reads.0.2, wrote))
         gives (Some bytes) errors.Memory reads wrote written = wrote
         gives (Some bytes) errors.Thread reads wrote written = absurd wrote
         gives (Some bytes) errors.Checkers reads wrote written = absurd wrote

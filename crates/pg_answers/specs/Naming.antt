@@ -2,6 +2,7 @@
 -- there are none the report of the no on standard error.
 use Rattle.std.specs.Prelude.{◌≡◌, ◌⊎◌, ℕ, List, [], Result, Ok, Err, string_bytes}
 use Rattle.pg_event.specs.declared.event.Event.{Event}
+use Rattle.pg_event.specs.Heads.{HoldsToAll}
 use Rattle.pg_event.specs.Spelling.{Recorded, IsRecord, record_bytes}
 use Rattle.pg_event.specs.Witness.{Accepted}
 use Rattle.pg_run_of.specs.Converse.{AreSameButMoments}
@@ -35,7 +36,7 @@ pub record IsNamedRecord (r named : Recorded) : Type 0 where
 abbrev pub IsNaming : Recorded → Naming → List ℕ → Type 0
 IsNaming r Named text =
     (named : Recorded) × IsNamedRecord r named × (text ≡ record_bytes named)
-    × (IsRecord r → SpellsOne text named)
+    × (IsRecord r → HoldsToAll r.head → SpellsOne text named)
 IsNaming r (Denied told) text =
     ((x : Rejection) × IsRejection r x × (string_bytes told ≡ rejection_text x)) × (text ≡ [])
 

@@ -5,8 +5,8 @@ ghost use Rattle.std.specs.Prelude.{◌≤◌};
 
 use crate::lists::Lists;
 use crate::numbers::{NEVER, after_last, first_from};
-use pg_entry::Level;
-use pg_event::{Control, Event, Outcome, bits_from, changes_pge, level_shift};
+use pg_entry::{Level, Rules};
+use pg_event::{Control, Event, Invalidation, bits_from, level_shift};
 use std::alloc::{AllocError, Global};
 
 /// What an event drops of the caches of its processor (Intel SDM, vol. 3, 4.10.4).
@@ -28,8 +28,9 @@ enum Scope {
 pub(crate) enum Range {
     /// Structure entries of level 4 of a PCID.
     Top(u16),
-    /// Translations of a PCID, and structure entries of this level. What drops the translations
-    /// alone drops all structure entries of the PCID.
+    /// Translations of a PCID, and structure entries of this level. By all rules, what drops the
+    /// translations alone drops all structure entries of the PCID; under fewer the search takes
+    /// both for dropped where one is.
     Page(u16, Level),
     /// Global translations.
     GlobalPage(Level),
@@ -42,6 +43,8 @@ struct Dropped {
     la: u64,
     /// Whether it drops structure entries of level 4 for this address alone.
     is_top: bool,
+    /// Whether it drops translations that are not global.
+    is_page: bool,
     /// Whether it drops global translations.
     is_global: bool,
 }
@@ -101,68 +104,56 @@ fn key(scope: Scope, la: u64) -> u64 {
     kind << 58 ^ (pcid as u64) << 36 ^ bits
 }
 
-/// The address of which an event drops what is cached, where it drops that alone.
-fn address_of(event: &Event) -> Option<u64> {
-    match *event {
-        Event::Access {
-            la,
-            outcome: Outcome::Fault(_),
-            ..
-        }
-        | Event::Invlpg { la, .. }
-        | Event::Invpcid { kind: 0, la, .. } => Some(la),
-        Event::Access {
-            outcome: Outcome::Page(_),
-            ..
-        }
-        | Event::Write { .. }
-        | Event::Assist { .. }
-        | Event::MovCr3 { .. }
-        | Event::MovCr4Pge { .. }
-        | Event::Invpcid { .. } => None,
-    }
-}
-
 /// What an event drops for an address alone. Without PGE there are no global translations.
-fn dropped_by(event: &Event, control: Control) -> Option<Dropped> {
-    let la = address_of(event)?;
-    match *event {
-        Event::Invpcid { pcid, .. } => Some(Dropped {
+fn dropped_by(event: &Event, rules: Rules, control: Control) -> Option<Dropped> {
+    match event.invalidation(rules, control) {
+        Invalidation::Address {
             pcid,
             la,
-            is_top: true,
-            is_global: false,
-        }),
-        Event::Access { .. }
-        | Event::Invlpg { .. }
-        | Event::Write { .. }
-        | Event::Assist { .. }
-        | Event::MovCr3 { .. }
-        | Event::MovCr4Pge { .. } => Some(Dropped {
-            pcid: control.pcid,
+            structures,
+            translations,
+            globals,
+        } => Some(Dropped {
+            pcid,
             la,
-            is_top: !matches!(event, Event::Invlpg { .. }),
+            is_top: structures,
+            is_page: translations,
+            is_global: globals && control.pge,
+        }),
+        Invalidation::Page { pcid, la } => Some(Dropped {
+            pcid,
+            la,
+            is_top: false,
+            is_page: true,
             is_global: control.pge,
         }),
+        Invalidation::Nothing | Invalidation::Pcid(_) | Invalidation::Everything { .. } => None,
     }
 }
 
 /// Whether an event may drop what lies in the range that an address has, whatever the control
 /// registers.
-pub(crate) fn may_drop(event: &Event, range: Range, la: u64) -> bool {
-    match address_of(event) {
-        Some(other) => prefix(range, other) == prefix(range, la),
+pub(crate) fn may_drop(event: &Event, rules: Rules, range: Range, la: u64) -> bool {
+    match dropped_by(event, rules, Control::default()) {
+        Some(dropped) => prefix(range, dropped.la) == prefix(range, la),
         None => false,
     }
 }
 
 /// Whether an event drops what lies in the range that an address has.
-pub(crate) fn drops_range(event: &Event, control: Control, range: Range, la: u64) -> bool {
-    let Some(dropped) = dropped_by(event, control) else {
+pub(crate) fn drops_range(
+    event: &Event,
+    rules: Rules,
+    control: Control,
+    range: Range,
+    la: u64,
+) -> bool {
+    let Some(dropped) = dropped_by(event, rules, control) else {
         return false;
     };
     let is_its = match range {
         Range::Top(pcid) => dropped.is_top && dropped.pcid == pcid,
+        Range::Page(pcid, Level::One) => dropped.is_page && dropped.pcid == pcid,
         Range::Page(pcid, _) => dropped.pcid == pcid,
         Range::GlobalPage(_) => dropped.is_global,
     };
@@ -226,48 +217,42 @@ impl Drops {
         self.push(p, Scope::Space(pcid), 0, place)
     }
 
-    fn push_all(&mut self, p: u16, place: u32) -> Result<(), AllocError> {
-        self.push(p, Scope::All, 0, place)?;
-        self.push(p, Scope::Most, 0, place)
-    }
-
-    fn note_invpcid(&mut self, p: u16, kind: u8, pcid: u16, place: u32) -> Result<(), AllocError> {
-        match kind {
-            0 => Ok(()),
-            1 => self.push_space(p, pcid, place),
-            2 => self.push_all(p, place),
-            _ => self.push(p, Scope::Most, 0, place),
-        }
+    fn push_page(&mut self, p: u16, pcid: u16, la: u64, place: u32) -> Result<(), AllocError> {
+        self.push(p, Scope::Of(Range::Page(pcid, Level::One)), la, place)
     }
 
     /// Notes what an event drops, which stands at this place among those of its processor: of
-    /// ranges the pages of a PCID. A change of PGE drops all.
+    /// ranges the pages of a PCID.
     pub(crate) fn note(
         &mut self,
         p: u16,
-        event: &Event,
-        control: Control,
+        invalidation: Invalidation,
         place: u32,
     ) -> Result<(), AllocError> {
-        if let Some(Dropped { pcid, la, .. }) = dropped_by(event, control) {
-            self.push(p, Scope::Of(Range::Page(pcid, Level::One)), la, place)?;
-        }
-        match *event {
-            Event::MovCr3 { operand, .. } => {
-                if operand >> 63 > 0 {
+        match invalidation {
+            Invalidation::Nothing => Ok(()),
+            Invalidation::Address {
+                pcid,
+                la,
+                translations,
+                ..
+            } => {
+                if !translations {
                     return Ok(());
                 }
-                self.push_space(p, (operand % 4096) as u16, place)
+                self.push_page(p, pcid, la, place)
             }
-            Event::Invlpg { .. } => self.push(p, Scope::Structures(control.pcid), 0, place),
-            Event::Invpcid { kind, pcid, .. } => self.note_invpcid(p, kind, pcid, place),
-            Event::MovCr4Pge { on, .. } => {
-                if !changes_pge(control, on) {
-                    return Ok(());
+            Invalidation::Page { pcid, la } => {
+                self.push_page(p, pcid, la, place)?;
+                self.push(p, Scope::Structures(pcid), 0, place)
+            }
+            Invalidation::Pcid(pcid) => self.push_space(p, pcid, place),
+            Invalidation::Everything { globals } => {
+                if globals {
+                    self.push(p, Scope::All, 0, place)?;
                 }
-                self.push_all(p, place)
+                self.push(p, Scope::Most, 0, place)
             }
-            Event::Access { .. } | Event::Write { .. } | Event::Assist { .. } => Ok(()),
         }
     }
 
@@ -283,10 +268,11 @@ impl Drops {
         &mut self,
         p: u16,
         event: &Event,
+        rules: Rules,
         control: Control,
         place: u32,
     ) -> Result<(), AllocError> {
-        let Some(dropped) = dropped_by(event, control) else {
+        let Some(dropped) = dropped_by(event, rules, control) else {
             return Ok(());
         };
         let Dropped {
@@ -294,6 +280,7 @@ impl Drops {
             la,
             is_top,
             is_global,
+            ..
         } = dropped;
         if is_top {
             self.push_wide(p, Range::Top(pcid), la, place)?;

@@ -125,9 +125,14 @@ impl<'a> Facts<'a> {
 
     fn note_control(&mut self, event: &Event, p: u16, place: u32) -> Result<(), AllocError> {
         let control = self.stays.control(p, place);
-        self.drops.note(p, event, control, place)?;
-        if matches!(event, Event::MovCr3 { .. } | Event::MovCr4Pge { .. }) {
-            let maxphyaddr = self.run.header().cfg.m;
+        let Cfg {
+            m: maxphyaddr,
+            rules,
+            ..
+        } = self.run.header().cfg;
+        self.drops
+            .note(p, event.invalidation(rules, control), place)?;
+        if event.control_change().changes_some() {
             let next = controlled(maxphyaddr, p, control, event);
             self.stays.change(p, place.saturating_add(1), next)?;
         }

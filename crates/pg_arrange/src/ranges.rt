@@ -7,7 +7,7 @@ use crate::drops::{Range, drops_range, may_drop};
 use crate::facts::Facts;
 use crate::numbers::{NEVER, after_last, first_from};
 use pg_entry::Level;
-use pg_event::{Control, Event};
+use pg_event::Control;
 use std::alloc::{AllocError, Global};
 
 /// What a processor has cached of the range that an address lies in.
@@ -34,13 +34,14 @@ impl<'a> Facts<'a> {
     /// Notes what all events of a processor drop of ranges that are not listed yet.
     fn note_all_wide(&mut self, p: u16) -> Result<(), AllocError> {
         let run = self.run;
+        let rules = run.header().cfg.rules;
         let mut control = self.control(p, 0);
         for place in 0..self.count(p) {
             let Some(event) = run.event_at(self.own(p, place).unwrap_or(NEVER)) else {
                 continue;
             };
-            self.drops.note_wide(p, event, control, place)?;
-            if matches!(event, Event::MovCr3 { .. } | Event::MovCr4Pge { .. }) {
+            self.drops.note_wide(p, event, rules, control, place)?;
+            if event.control_change().changes_some() {
                 control = self.control(p, place.saturating_add(1));
             }
         }
@@ -50,9 +51,10 @@ impl<'a> Facts<'a> {
     /// Whether the event at a place among those of its processor drops a range.
     fn drops_at(&self, of: Area, place: u32) -> bool {
         let Area { p, range, la } = of;
+        let rules = self.run.header().cfg.rules;
         match self.run.event_at(self.own(p, place).unwrap_or(NEVER)) {
-            Some(event) if may_drop(event, range, la) => {
-                drops_range(event, self.control(p, place), range, la)
+            Some(event) if may_drop(event, rules, range, la) => {
+                drops_range(event, rules, self.control(p, place), range, la)
             }
             _ => false,
         }

@@ -397,7 +397,7 @@ impl<'a> Maker<'a> {
     /// Whether an event may change the control registers of its processor.
     fn changes_control(&self, event: u32) -> bool {
         match self.facts.run.event_at(event) {
-            Some(it) => matches!(it, Event::MovCr3 { .. } | Event::MovCr4Pge { .. }),
+            Some(it) => it.control_change().changes_some(),
             None => false,
         }
     }

@@ -1,6 +1,6 @@
 -- Parts of a record in the pieces in which they are read.
-use Rattle.std.specs.Prelude.{◌≡◌, ℕ, ◌≤◌, ◌<◌, Bool, nat_lt, if◌then◌else◌, List, ◌++◌, Option, Ok, Err}
-use Rattle.std.specs.Prelude.{true, false}
+use Rattle.std.specs.Prelude.{◌≡◌, ℕ, ◌≤◌, ◌<◌, Bool, nat_lt, if◌then◌else◌, List, ◌++◌, Option}
+use Rattle.std.specs.Prelude.{Ok, Err, true, false}
 use Rattle.std.specs.Int.{w32}
 use Rattle.pg_entry.specs.declared.Cfg.{Cfg}
 use Rattle.pg_entry.specs.Rules.{all_rules}

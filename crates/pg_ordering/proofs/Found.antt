@@ -53,5 +53,5 @@ named_in_order s order found spanned h =
       head = refl;
       certified = h.certified;
       run = accepted_events_run s.head found (found_well s order found spanned h) h.certified.good;
-      one = λ spelled. one (record_bytes named) named (found_record in_order found (ordered_record s order h.order_of spelled) h.certified, refl);
+      one = λ spelled all. one (record_bytes named) named (found_record in_order found (ordered_record s order h.order_of spelled) h.certified, refl, all);
     }

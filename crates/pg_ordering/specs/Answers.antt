@@ -1,6 +1,7 @@
 -- What `certify` answers of a record with no one order (versions 3 and 4).
 use Rattle.std.specs.Prelude.{◌≡◌, ◌⊎◌, ℕ, List, Option, Result, Ok, Err}
 use Rattle.pg_event.specs.declared.event.Event.{Event}
+use Rattle.pg_event.specs.Heads.{HoldsToAll}
 use Rattle.pg_event.specs.Spelling.{Recorded, record_bytes}
 use Rattle.pg_run_of.specs.Law.{HasRun}
 use Rattle.pg_certify.specs.Certified.{IsCertified, HasRunButMoments}
@@ -93,7 +94,7 @@ pub record IsNamedInOrder (s : Spanned) (named : Recorded) : Type 0 where
   pub head : named.head ≡ s.head
   pub certified : IsCertified s.head (ordered s.events order) named.events
   pub run : HasRun s.head named.events
-  pub one : IsSpelled s → SpellsOne (record_bytes named) named
+  pub one : IsSpelled s → HoldsToAll s.head → SpellsOne (record_bytes named) named
 
 abbrev pub GivesRecord : Spanned → Change → Change → ℕ → Type 0
 GivesRecord s output errors status =
