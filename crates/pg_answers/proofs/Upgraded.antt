@@ -10,7 +10,6 @@ use Rattle.pg_event.specs.declared.event.Event.TheVariants.{Write, Access, Assis
 use Rattle.pg_event.specs.declared.event.Malformed.TheVariants as rules
 use Rattle.pg_event.specs.declared.version.Version.{Version}
 use Rattle.pg_event.specs.declared.version.Version.TheVariants as versions
-use Rattle.pg_entry.specs.Rules.{all_rules}
 use Rattle.pg_event.specs.Heads.{Head, HoldsToAll, most_processors}
 use Rattle.pg_event.specs.Form.{broken_rule, breaks_assist, breaks_word_address, breaks_linear_address}
 use Rattle.pg_event.specs.Witness.{first_bad}

@@ -1,6 +1,7 @@
 -- What a processor that is held to fewer rules must drop, and what is witnessed of it.
 use Rattle.std.proofs.Common.{◌≡◌, ℕ, zero, suc, ◌+◌, ◌-◌, ◌%◌, ◌^◌, Bool, true, false, not, cond, ◌&&◌, ◌||◌, ◌==◌, List, [], ◌∷◌, Option, Some, None, refl, sym, ap, ◌∙◌}
 use Rattle.std.specs.Prelude.{slice_get, option_and_then}
+use Rattle.std.specs.List.{AllByRecursion}
 use Rattle.std.specs.Option.{option_or}
 use Rattle.std.proofs.lemmas.Bool.{and_parts, and_from, or_parts, or_from, not-true, not_from_false, false≢true, false_from_ne_true}
 use Rattle.pg_entry.specs.declared.Cfg.{Cfg}
@@ -29,13 +30,32 @@ use Rattle.pg_event.specs.declared.event.Want.{Want}
 use Rattle.pg_event.specs.declared.claim.Claim.{Claim}
 use Rattle.pg_event.specs.declared.claim.Update.{Update}
 use Rattle.pg_event.specs.Heads.{Head, with_rules}
-use Rattle.pg_event.specs.Form.{processor_of}
+use Rattle.pg_event.specs.Form.{processor_of, broken_rule}
+use Rattle.pg_event.specs.Spelling.{IsHead}
 use Rattle.pg_event.specs.Values.{control_at}
 use Rattle.pg_event.specs.Wants.{is_table, may_dirty}
 use Rattle.pg_event.specs.Walk.{Reading}
 use Rattle.pg_event.specs.Invalidation.{structure_key, translation_key, structure_matches, translation_matches, must_drop_structure, must_drop_translation}
 use Rattle.pg_event.specs.Laws.{FewerRulesDropLess, WitnessedUnderFewerRules}
 use Rattle.pg_event.specs.Witness.{leads_to, is_in_order, is_one_context, last_or, any_from, takes_out, survives, structures_survive, tables_accessed, Asked, asked_by, asked_of, failing_leaf, failing_fault, failing_end, failing_walk, failing_claim, failing_update, walked, claim_of, update_of, failing_event}
+
+-- ---- what does not depend on the rules
+
+pub same_form : (head : Head) (rules : Rules) (e : Event) → broken_rule (with_rules head rules) e ≡ broken_rule head e
+same_form head rules (Write p addr value) = refl
+same_form head rules (Access p flags la outcome moments) = refl
+same_form head rules (Assist p flags la word moments) = refl
+same_form head rules (MovCr3 p operand) = refl
+same_form head rules (Invlpg p la) = refl
+same_form head rules (Invpcid p kind pcid la) = refl
+same_form head rules (MovCr4Pge p on) = refl
+
+pub well_held : (head : Head) (rules : Rules) (events : List Event) → AllByRecursion (λ e. broken_rule head e ≡ None) events → AllByRecursion (λ e. broken_rule (with_rules head rules) e ≡ None) events
+well_held head rules [] well = tt
+well_held head rules (e ∷ es) well = (same_form head rules e ∙ well.0, well_held head rules es well.1)
+
+pub head_held : (head : Head) (rules : Rules) → IsHead head → IsHead (with_rules head rules)
+head_held head rules is = record { low = is.low; high = is.high; flags = is.flags; some = is.some; few = is.few; size = is.size; limit = is.limit; starts = is.starts }
 
 -- ---- what must be dropped
 

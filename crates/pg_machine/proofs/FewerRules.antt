@@ -22,11 +22,11 @@ use Rattle.pg_event.specs.declared.event.Want.{Want}
 use Rattle.pg_event.specs.declared.event.Want.TheVariants as wants
 use Rattle.pg_event.specs.declared.walk.Parent.{Parent}
 use Rattle.pg_event.specs.Heads.{Head, with_rules}
-use Rattle.pg_event.specs.Form.{processor_of, access_kind, says_dirty, broken_rule}
+use Rattle.pg_event.specs.Form.{processor_of, access_kind, says_dirty}
 use Rattle.pg_event.specs.Invalidation.{must_drop_structure, must_drop_translation}
 use Rattle.pg_event.specs.Walk.{root_of}
 use Rattle.pg_event.specs.Wants.{want_of, may_dirty}
-use Rattle.pg_event.proofs.FewerRules.{fewer_rules_drop_less}
+use Rattle.pg_event.proofs.FewerRules.{fewer_rules_drop_less, same_form}
 use Rattle.pg_machine.specs.declared.step.Structure.{Structure}
 use Rattle.pg_machine.specs.declared.step.Translation.{Translation}
 use Rattle.pg_machine.specs.declared.step.Member.TheVariants as members
@@ -100,15 +100,6 @@ same_dirty cfg rules kind rights (kinds.Leaf frame shift global_bit) = same_allo
 same_dirty cfg rules kind rights (kinds.Table addr) = refl
 same_dirty cfg rules kind rights kinds.Absent = refl
 same_dirty cfg rules kind rights kinds.Reserved = refl
-
-same_form : (head : Head) (rules : Rules) (e : Event) → broken_rule (with_rules head rules) e ≡ broken_rule head e
-same_form head rules (events.Write p addr value) = refl
-same_form head rules (events.Access p flags la outcome moments) = refl
-same_form head rules (events.Assist p flags la word moments) = refl
-same_form head rules (events.MovCr3 p operand) = refl
-same_form head rules (events.Invlpg p la) = refl
-same_form head rules (events.Invpcid p kind pcid la) = refl
-same_form head rules (events.MovCr4Pge p on) = refl
 
 -- ---- a state whose caches have at least as much
 

@@ -51,7 +51,7 @@ leaf_end : (head : Head) (events : List Event) (c : Claim) (pcid : ℕ) (q : Rea
     failing_leaf head.cfg c.kind q.rights (frame + c.la % 2 ^ shift) c.outcome ≡ None
 leaf_end head events c pcid q frame shift g h =
     let global : Bool = g && (control_at head events c.p q.moment).pge in
-    let kept = guard_none (survives head events c.p (λ d e. must_drop_translation d e (translation_key pcid shift global c.la)) q.moment c.number) _ _ h in
+    let kept = guard_none (survives head events c.p (λ d e. must_drop_translation head.cfg.rules d e (translation_key pcid shift global c.la)) q.moment c.number) _ _ h in
     (bar_none (not ((control_at head events c.p c.number).pcid == pcid) && not global) _ _ kept.1).1
 
 -- the page of a claim is the one that the entry gives

@@ -1,14 +1,13 @@
 -- What is known of the control registers, and what it is of a run.
-use Rattle.std.specs.Prelude.{◌≡◌, ℕ, ◌+◌, ◌<◌, ◌≤◌, ◌^◌, Bool, true, false, nat_lt, min}
+use Rattle.std.specs.Prelude.{◌≡◌, ℕ, ◌+◌, ◌<◌, ◌≤◌, ◌^◌, Bool, nat_lt, min}
 use Rattle.std.specs.Prelude.{if◌then◌else◌, List, [], ◌∷◌, length, slice_get, slice_index_or}
 use Rattle.std.specs.Option.{unwrap_or}
 use Rattle.pg_entry.specs.declared.Cfg.{Cfg}
 use Rattle.pg_event.specs.declared.version.Version.{Version}
 use Rattle.pg_event.specs.declared.event.Event.{Event}
-use Rattle.pg_event.specs.declared.event.Event.TheVariants.{Write, Access, Assist, MovCr3, Invlpg}
-use Rattle.pg_event.specs.declared.event.Event.TheVariants.{Invpcid, MovCr4Pge}
 use Rattle.pg_event.specs.declared.control.Control.{Control}
 use Rattle.pg_event.specs.Heads.{Head}
+use Rattle.pg_event.specs.Meaning.{control_change_of, changes_some}
 use Rattle.pg_event.specs.Values.{started, controlled, control_at}
 use Rattle.pg_timeline.specs.declared.timeline.Stamp.{Stamp}
 use Rattle.pg_timeline.specs.Timelines.{last_before}
@@ -27,13 +26,7 @@ changes_of changes p = slice_index_or changes p []
 
 -- whether an event may change the control registers of its processor
 abbrev pub is_change : Event → Bool
-is_change (Write p addr value) = false
-is_change (Access p flags la outcome moments) = false
-is_change (Assist p flags la word moments) = false
-is_change (MovCr3 p operand) = true
-is_change (Invlpg p la) = false
-is_change (Invpcid p kind pcid la) = false
-is_change (MovCr4Pge p on) = true
+is_change e = changes_some (control_change_of e)
 
 -- the registers of a processor at the start
 abbrev pub start_in : Head → ℕ → Control

@@ -45,19 +45,11 @@ impl Model for Controls {
         × (a.permissions ≡ a.header.cfg) };
 }
 
-/// Whether an event may change the control registers of its processor: MOV to CR3, and MOV to CR4
-/// with bit PGE.
+/// Whether an event may change the control registers of its processor.
 fn is_change(event: &Event) -> bool
     ensures { result ≡ is_change event.now }
 {
-    match *event {
-        Event::MovCr3 { .. } | Event::MovCr4Pge { .. } => true,
-        Event::Write { .. }
-        | Event::Access { .. }
-        | Event::Assist { .. }
-        | Event::Invlpg { .. }
-        | Event::Invpcid { .. } => false,
-    }
+    event.control_change().changes_some()
 }
 
 /// No changes of each of some processors.

@@ -1,3 +1,4 @@
+use Rattle.std.proofs.Common.{refl}
 use Rattle.std.proofs.lemmas.Bool.{lt-ltb, le-leb}
 use Rattle.pg_codec.specs.Parts.{cfg_at}
 use Rattle.pg_codec.proofs.front.cfg_of.Goals as goal
@@ -15,4 +16,5 @@ returns-clause-bounds c = record {
   low = c.if-maxphyaddr-lt-LEAST_MAXPHYADDR.false;
   high = c.if-maxphyaddr-gt-MOST_MAXPHYADDR.false;
   flags = c.if-flags-ge16.false;
+  rules = refl;
 }
