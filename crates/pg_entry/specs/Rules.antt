@@ -1,5 +1,5 @@
 -- Which of the model's rules a processor is held to.
-use Rattle.std.specs.Prelude.{◌≡◌, ℕ, Bool, true, ◌==◌, bit_and, List, [], ◌∷◌, codes}
+use Rattle.std.specs.Prelude.{◌≡◌, ℕ, ◌-◌, Bool, true, ◌==◌, bit_and, List, [], ◌∷◌, codes}
 use Rattle.pg_entry.specs.declared.Rules.{Rules}
 
 -- the rules that may be left out, each by its flag. A page fault drops the translations of its page
@@ -39,6 +39,14 @@ rule_names =
 -- all of them
 abbrev pub all_rules : Rules
 all_rules = record { 0 = 63 }
+
+-- none of those that can be left out
+abbrev pub lax_rules : Rules
+lax_rules = record { 0 = 0 }
+
+-- all of some rules but one
+abbrev pub without : ℕ → Rules → Rules
+without rule rules = record { 0 = bit_and rules.0 (63 - rule) }
 
 -- whether they hold a processor to a rule
 abbrev pub holds : Rules → ℕ → Bool

@@ -1,5 +1,5 @@
-ghost use Rattle.std.specs.Prelude.{⊤, ◌≡◌};
-ghost use Rattle.pg_entry.specs.Rules.{rule_names, holds};
+ghost use Rattle.std.specs.Prelude.{⊤, ◌≡◌, ◌≤◌};
+ghost use Rattle.pg_entry.specs.Rules.{rule_names, holds, without};
 
 use crate::Rules;
 use bitflags::{Flag, Flags, bitflag_items};
@@ -40,6 +40,21 @@ impl Flags for Rules {
 impl Rules {
     /// All rules: a processor of Intel's manual.
     pub const ALL: Rules = Rules(63);
+
+    /// What AMD's manual promises, as far as memory goes (volume 2, section 5.5): all but what a page
+    /// fault drops.
+    pub const AMD: Rules = Rules(56);
+
+    /// None of those that can be left out.
+    pub const LAX: Rules = Rules(0);
+
+    /// All of them but this one.
+    pub fn without(self, rule: Rules) -> Rules
+        requires { rule.0 ≤ 63 }
+        ensures { result ≡ without rule.0 self }
+    {
+        Rules(self.0 & (63 - rule.0))
+    }
 
     /// Whether they hold a processor to a rule.
     #[inline(always)]
