@@ -4,3 +4,4 @@ pub mod Bounds
 pub mod Orders
 pub mod Ends
 mod Musts
+pub mod Held

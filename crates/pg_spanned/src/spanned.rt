@@ -3,9 +3,11 @@
 ghost use Rattle.std.specs.Prelude.{◌≡◌, ◌+◌, ◌<◌, ◌≤◌, ◌^◌, [], ◌∷◌, ◌++◌, length, None};
 ghost use Rattle.std.specs.Prelude.{IfOk, OnOk, OnErr, IfSome, slice_get, option_map};
 ghost use Rattle.pg_event.specs.Form.{broken_rule};
+ghost use Rattle.pg_event.specs.Heads.{with_rules};
 ghost use Rattle.pg_event.specs.Spelling.{IsHead};
 ghost use Rattle.pg_spanned.specs.Spanned.{IsSpanned};
 
+use pg_entry::Rules;
 use pg_event::{Event, Header};
 use std::alloc::{AllocError, Global};
 use std::marker::Model;
@@ -70,6 +72,18 @@ impl SpannedRun {
         self.events.push_reserved(*event);
         self.backs.push_reserved(back);
         Ok(())
+    }
+
+    /// The same events and spans, of processors that are held to these rules.
+    #[tactic(auto, using(crate::proofs::Held::held_is_spanned))]
+    pub fn held_to(self, rules: Rules) -> SpannedRun
+        ensures { result ≡ record self { head = with_rules self.head rules } }
+    {
+        SpannedRun {
+            header: self.header.with_rules(rules),
+            events: self.events,
+            backs: self.backs,
+        }
     }
 
     /// How many events there are.
