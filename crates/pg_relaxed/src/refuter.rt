@@ -1,11 +1,11 @@
 //! Whether no order of the events of a run can witness one of them.
 
 ghost use Rattle.std.specs.Prelude.{◌≡◌, ℕ, ◌<◌, ◌≤◌, ◌^◌, ◌↔◌, [], length, IfOk, OnOk, IsTrue};
-ghost use Rattle.std.specs.Prelude.{slice_get, true, Some};
+ghost use Rattle.std.specs.Prelude.{slice_get, Some};
 ghost use Rattle.pg_entry.specs.Kinds.{kind_of};
 ghost use Rattle.pg_event.specs.Form.{processor_of};
 ghost use Rattle.pg_event.specs.Wants.{want_of};
-ghost use Rattle.pg_machine.specs.Machine.{Answers, IsIn, is_usable, may_serve};
+ghost use Rattle.pg_machine.specs.Machine.{IsIn};
 ghost use Rattle.pg_relaxed.specs.Caches.{CannotCome, HasNoFault, HasNoAnswer, known_of, kind_for};
 ghost use Rattle.pg_relaxed.specs.Caches.{IsNotGiven};
 ghost use Rattle.pg_relaxed.specs.Caches.{word_in};
@@ -22,12 +22,11 @@ use crate::slot::Slot;
 use crate::table::Table;
 use crate::updates::{Update, has_no_update};
 use crate::words::Words;
-use pg_entry::{AccessKind, Cause, Entry, Kind, Op, allowed, classify, error_code, page_offset};
+use pg_entry::{AccessKind, Cause, Entry, Kind, classify};
 use pg_event::{
-    Control, Event, Header, Outcome, Version, Want, access_kind, entry_address, processor_of,
-    says_dirty, translation_matches, want_of,
+    Event, Header, Outcome, Want, access_kind, entry_address, processor_of, says_dirty, want_of,
 };
-use pg_machine::Translation;
+use pg_machine::gives;
 use pg_spanned::{SpannedRun, ended_before, started};
 use std::alloc::{AllocError, Global};
 
@@ -48,50 +47,6 @@ struct Asked {
     kind: AccessKind,
     la: u64,
     outcome: Outcome,
-}
-
-/// Whether a translation may be used for a write: where dirty flags are judged, its leaf had D
-/// (Intel SDM, vol. 3, 4.8).
-fn may_serve(version: Version, access: AccessKind, translation: &Translation) -> bool
-    ensures { result ≡ may_serve version access translation.now }
-{
-    match version {
-        Version::One => true,
-        Version::Two => !matches!(access.op, Op::Write) || translation.dirty,
-    }
-}
-
-/// Whether a translation may be used for an access and gives it this outcome.
-fn gives(
-    header: &Header,
-    control: Control,
-    la: u64,
-    access: AccessKind,
-    outcome: Outcome,
-    translation: &Translation,
-) -> bool
-    requires size { translation.now.key.shift ≤ 30 }
-    requires within { translation.now.frame < 2 ^ 52 }
-    ensures { IsTrue result ↔ (is_usable control la translation.now ≡ true)
-        × Answers header.now access la translation.now outcome }
-{
-    let key = translation.key;
-    if !translation_matches(key, la) {
-        return false;
-    }
-    if control.pcid != key.pcid && !key.global {
-        return false;
-    }
-    let is_allowed = allowed(header.cfg, translation.rights, access);
-    match outcome {
-        Outcome::Page(page) => {
-            is_allowed
-                && may_serve(header.version, access, translation)
-                && page == translation.frame + page_offset(la, key.shift)
-        }
-        Outcome::Fault(code) => !is_allowed
-            && code == error_code(header.cfg, access, Cause::Denied),
-    }
 }
 
 /// Whether no translation gives an access its outcome.

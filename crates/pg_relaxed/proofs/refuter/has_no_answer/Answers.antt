@@ -12,7 +12,7 @@ loop-held-preserved c =
     let is : c.held-item.result ≡ get_or xs c.loop-held.held-index c.held-item.result = c.held-item.is ∙ ap (λ (ys : List Translation). get_or ys c.loop-held.held-index c.held-item.result) same in
     let here : is_usable c.args.caches.now.control c.args.asked.la c.get.result ≡ true → Answers c.args.header.now c.args.asked.kind c.args.asked.la c.get.result c.args.asked.outcome → ⊥ =
     λ usable answers.
-    let is : c.gives.result ≡ true = c.gives.ensures.1 (usable, answers) in
+    let is : c.gives.result ≡ true = c.gives.ensures.meaning.1 (usable, answers) in
     let isnt = c.if-gives.false in
     absurd (cc) in
     one_more (λ (x : Translation). is_usable c.args.caches.now.control c.args.asked.la x ≡ true → Answers c.args.header.now c.args.asked.kind c.args.asked.la x c.args.asked.outcome → ⊥)
