@@ -1,7 +1,7 @@
 //! Logs of single processors, and the runs that they make.
 
 use pg_event::Event;
-use pg_span_codec::{Log, merge_logs, read_log};
+use pg_spanned::{Log, merge_logs, read_log};
 use pg_spanned::SpannedRun;
 use std::alloc::{AllocError, AllocGlobal, Global};
 use std::cell::Cell;
