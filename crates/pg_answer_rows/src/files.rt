@@ -2,7 +2,7 @@
 
 use pg_cases::{Case, Pieces, answers, bytes_of, is_answered, walks};
 use pg_codec::{Sink, Source, Watched};
-use pg_span_codec::Peeked;
+use pg_spanned::Peeked;
 use pg_tool::{Nowhere, pcid_audit, plan};
 use std::alloc::AllocGlobal;
 use std::io::ErrorKind;

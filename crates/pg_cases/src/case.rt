@@ -3,7 +3,7 @@
 use crate::pieces::{Crumbs, Fault, Pieces};
 use crate::told::is_told;
 use pg_codec::{Sink, Source, Watched};
-use pg_span_codec::Peeked;
+use pg_spanned::Peeked;
 use pg_tool::{Nowhere, pcid_audit, plan};
 use std::alloc::AllocGlobal;
 use std::io::ErrorKind;

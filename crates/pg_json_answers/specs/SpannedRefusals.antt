@@ -7,8 +7,8 @@ use Rattle.pg_ordering.specs.declared.reading.Unread.{Unread}
 use Rattle.pg_ordering.specs.declared.reading.Unread.TheVariants.{Refused, Device, Memory}
 use Rattle.pg_report.specs.declared.error.AuditError.TheVariants as audits
 use Rattle.pg_report.specs.Changes.{Change}
-use Rattle.pg_span_codec.specs.declared.refusal.SpannedRefusal.{SpannedRefusal}
-use Rattle.pg_span_codec.specs.declared.refusal.SpannedRefusal.TheVariants.{Plain, Back}
+use Rattle.pg_spanned.specs.declared.refusal.SpannedRefusal.{SpannedRefusal}
+use Rattle.pg_spanned.specs.declared.refusal.SpannedRefusal.TheVariants.{Plain, Back}
 
 -- as that of a record with one order; the span of an event that begins before the first event
 -- breaks rule 7

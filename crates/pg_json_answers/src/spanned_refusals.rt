@@ -13,7 +13,7 @@ use pg_answers::{MEMORY, REFUSED};
 use pg_codec::Sink;
 use pg_ordering::Unread;
 use pg_report::AuditError;
-use pg_span_codec::SpannedRefusal;
+use pg_spanned::SpannedRefusal;
 
 fn tell_refusal<W: Sink>(errors: &mut W, refusal: SpannedRefusal)
     ensures { Tells (filled W.Sink errors.old errors.new) (json_line (spanned_json refusal)) }

@@ -9,7 +9,7 @@ use Rattle.std.proofs.lemmas.List.{length-map}
 use Rattle.std.proofs.lemmas.Option.{slice_get-get_or, get_or_from_slice_get, slice_get-map}
 use Rattle.pg_event.specs.Form.{processor_of}
 use Rattle.pg_spanned.specs.Orders.{Spanned, MustPrecede, IsOrder, ended_before}
-use Rattle.pg_spanned.specs.Laws.{EachPrecedesNext, ends}
+use Rattle.pg_spanned.specs.OrderLaws.{EachPrecedesNext, ends}
 use Rattle.pg_spanned.proofs.Places.{some_same}
 
 -- a number, but the two that follow each other are exchanged

@@ -11,7 +11,7 @@ use Rattle.pg_run_of.specs.Converse.{without_moments}
 use Rattle.pg_search.specs.Law.{RunBeginsWith}
 use Rattle.pg_certify.specs.Certified.{IsDenied, HasRunButMoments, DeniedEventsHaveNoRun}
 use Rattle.pg_spanned.specs.Orders.{Spanned, MustPrecede, StandsBefore, IsOrder, ordered}
-use Rattle.pg_spanned.specs.Laws.{EachPrecedesNext}
+use Rattle.pg_spanned.specs.OrderLaws.{EachPrecedesNext}
 use Rattle.pg_spanned.specs.Spanned.{IsSpanned}
 use Rattle.pg_spanned.proofs.Orders.{are_all, order_within}
 use Rattle.pg_spanned.proofs.Places.{stands_once}

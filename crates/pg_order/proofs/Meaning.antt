@@ -16,7 +16,7 @@ use Rattle.pg_search.specs.Law.{RunBeginsWith}
 use Rattle.pg_certify.specs.Certified.{IsDenied, HasRunButMoments, CertifiedEventsRun, CertifiedExactlyWhereARunExists, DeniedEventsHaveNoRun}
 use Rattle.pg_spanned.specs.Orders.{Spanned}
 use Rattle.pg_spanned.specs.Spanned.{IsSpanned}
-use Rattle.pg_spanned.specs.Laws.{ends, EachPrecedesNext, NoOtherOrder}
+use Rattle.pg_spanned.specs.OrderLaws.{ends, EachPrecedesNext, NoOtherOrder}
 use Rattle.pg_spanned.proofs.Places.{AllByRecursion-at, some_same}
 use Rattle.pg_spanned.specs.Orders.{ordered}
 use Rattle.pg_relaxed.specs.declared.edge.Edge.{Edge}

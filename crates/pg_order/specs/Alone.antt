@@ -1,7 +1,7 @@
 -- When events have one order alone.
 use Rattle.std.specs.Prelude.{◌≡◌, ℕ, ◌↔◌, List}
 use Rattle.pg_spanned.specs.Orders.{Spanned, IsOrder}
-use Rattle.pg_spanned.specs.Laws.{ends, EachPrecedesNext}
+use Rattle.pg_spanned.specs.OrderLaws.{ends, EachPrecedesNext}
 
 -- the order in which events ended is their only one exactly where each comes before the next in
 -- every order

@@ -2,7 +2,7 @@
 use Rattle.std.specs.Prelude.{◌≡◌, ℕ, ◌<◌, ◌≤◌, List, length}
 use Rattle.pg_certify.specs.Certified.{CanBeCertified, IsDenied, HasRunButMoments}
 use Rattle.pg_spanned.specs.Orders.{Spanned, IsOrder, ordered}
-use Rattle.pg_spanned.specs.Laws.{ends, EachPrecedesNext}
+use Rattle.pg_spanned.specs.OrderLaws.{ends, EachPrecedesNext}
 use Rattle.pg_relaxed.specs.declared.edge.Edge.{Edge}
 use Rattle.pg_relaxed.specs.Impossible.{IsFirstNotGiven}
 use Rattle.pg_relaxed.specs.Orders.{NeverComes}

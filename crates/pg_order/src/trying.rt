@@ -3,7 +3,7 @@
 
 ghost use Rattle.std.specs.Prelude.{◌≡◌, ℕ, ◌<◌, ◌≤◌, ◌^◌, ◌↔◌, [], ◌∷◌, ◌++◌, length, IfOk, OnOk};
 ghost use Rattle.std.specs.Prelude.{IsTrue, IsFalse, slice_index};
-ghost use Rattle.pg_spanned.specs.Laws.{EachPrecedesNext};
+ghost use Rattle.pg_spanned.specs.OrderLaws.{EachPrecedesNext};
 ghost use Rattle.pg_order.specs.Runs.{HasOrderedRun};
 ghost use Rattle.pg_order.specs.Trying.{AreNumbers, Lacks, LacksEarlier, NoneBegins};
 ghost use Rattle.pg_order.specs.Trying.{NoneBelow, IsTrying, GoesOn, IsTried};

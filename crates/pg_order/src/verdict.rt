@@ -3,7 +3,7 @@
 ghost use Rattle.std.specs.Prelude.{◌≡◌, ◌<◌, ◌≤◌, length, IfOk, IfSome, IfNone};
 ghost use Rattle.std.specs.List.{range_with_len};
 ghost use Rattle.pg_certify.specs.Certified.{HasRunButMoments};
-ghost use Rattle.pg_spanned.specs.Laws.{ends, EachPrecedesNext};
+ghost use Rattle.pg_spanned.specs.OrderLaws.{ends, EachPrecedesNext};
 ghost use Rattle.pg_spanned.specs.Orders.{ordered};
 ghost use Rattle.pg_order.specs.Verdicts.{IsVerdict, NeedsSearch, TellsNotGiven};
 

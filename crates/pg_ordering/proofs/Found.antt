@@ -12,7 +12,7 @@ use Rattle.pg_report.proofs.Verdicts.{one}
 use Rattle.pg_spanned.specs.Orders.{Spanned, IsOrder, ordered}
 use Rattle.pg_spanned.specs.Spanned.{IsSpanned}
 use Rattle.pg_spanned.proofs.Places.{AllByRecursion-at}
-use Rattle.pg_span_codec.specs.Spelling.{IsSpelled}
+use Rattle.pg_spanned.specs.Spelling.{IsSpelled}
 use Rattle.pg_order.proofs.Meaning.{length-ordered, ordered-well}
 use Rattle.pg_ordering.specs.Answers.{IsCertifiedIn, IsNamedInOrder}
 

@@ -3,9 +3,9 @@ use Rattle.std.proofs.Common.{◌≡◌, ℕ, List, Ok}
 use Rattle.pg_codec.proofs.Next.{all_bytes}
 use Rattle.pg_event.proofs.Fields.{IsBytes}
 use Rattle.pg_spanned.specs.Orders.{Spanned}
-use Rattle.pg_span_codec.specs.Laws.{SpelledWhereRead}
-use Rattle.pg_span_codec.specs.Reading.{spanned_reading}
-use Rattle.pg_span_codec.specs.Spelling.{SpellsSpanned}
+use Rattle.pg_spanned.specs.SpellingLaws.{SpelledWhereRead}
+use Rattle.pg_spanned.specs.Reading.{spanned_reading}
+use Rattle.pg_spanned.specs.Spelling.{SpellsSpanned}
 
 pub spells_read : SpelledWhereRead → (bytes : List ℕ) (s : Spanned) → IsBytes bytes → spanned_reading bytes ≡ Ok s → SpellsSpanned bytes s
 spells_read law bytes s are e = (law bytes s (all_bytes bytes are)).1 e

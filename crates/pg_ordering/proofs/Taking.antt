@@ -4,7 +4,7 @@ use Rattle.std.specs.Prelude.{MatchResult, option_map, slice_get, slice_index_or
 use Rattle.std.proofs.lemmas.Option.{slice_get-get_or, slice_get-map}
 use Rattle.std.proofs.lemmas.List.{take_more}
 use Rattle.pg_codec.specs.Streams.{FailsWithDevice}
-use Rattle.pg_span_codec.specs.Logs.{Logged}
+use Rattle.pg_spanned.specs.Logs.{Logged}
 use Rattle.pg_report.specs.Changes.{Change}
 use Rattle.pg_ordering.specs.declared.logs.Untaken.{Untaken}
 use Rattle.pg_ordering.specs.declared.logs.Untaken.TheVariants.{Unopened, Refused, Device, Memory}

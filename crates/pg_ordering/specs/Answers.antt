@@ -5,7 +5,7 @@ use Rattle.pg_event.specs.Spelling.{Recorded, record_bytes}
 use Rattle.pg_run_of.specs.Law.{HasRun}
 use Rattle.pg_certify.specs.Certified.{IsCertified, HasRunButMoments}
 use Rattle.pg_spanned.specs.Orders.{Spanned, IsOrder, ordered}
-use Rattle.pg_span_codec.specs.Spelling.{IsSpelled}
+use Rattle.pg_spanned.specs.Spelling.{IsSpelled}
 use Rattle.pg_order.specs.declared.verdict.Verdict.{Verdict}
 use Rattle.pg_order.specs.declared.verdict.Verdict.TheVariants.{Yes, Never, NoneOfAll, Undecided}
 use Rattle.pg_order.specs.Verdicts.{IsVerdict}

@@ -2,22 +2,22 @@
 use Rattle.std.specs.Prelude.{◌≡◌, ◌⊎◌, ℕ, List, [], ◌∷◌, ◌++◌, Option, Some, None, IfSome}
 use Rattle.std.specs.Prelude.{slice_get, take, Bool, true, false, Result, Ok, Err, codes, decimal}
 use Rattle.std.specs.Prelude.{unwrap_or}
-use Rattle.pg_span_codec.specs.declared.log_error.LogRefusal.{LogRefusal}
-use Rattle.pg_span_codec.specs.declared.log_error.LogRefusal.TheVariants.{Field, Stamps, Processor}
-use Rattle.pg_span_codec.specs.declared.log_error.MergeError.{MergeError}
-use Rattle.pg_span_codec.specs.declared.log_error.MergeError.TheVariants as merging
-use Rattle.pg_span_codec.specs.declared.log_error.Setting.TheVariants as settings
-use Rattle.pg_span_codec.specs.Logs.{Logged}
-use Rattle.pg_span_codec.specs.Merged.{IsMerged}
-use Rattle.pg_span_codec.specs.LogNumbers.{merge_error_number}
-use Rattle.pg_span_codec.specs.LogReading.{log_reading}
-use Rattle.pg_span_codec.specs.Runs.{AreOfOneRun, Explains}
+use Rattle.pg_spanned.specs.declared.log_error.LogRefusal.{LogRefusal}
+use Rattle.pg_spanned.specs.declared.log_error.LogRefusal.TheVariants.{Field, Stamps, Processor}
+use Rattle.pg_spanned.specs.declared.log_error.MergeError.{MergeError}
+use Rattle.pg_spanned.specs.declared.log_error.MergeError.TheVariants as merging
+use Rattle.pg_spanned.specs.declared.log_error.Setting.TheVariants as settings
+use Rattle.pg_spanned.specs.Logs.{Logged}
+use Rattle.pg_spanned.specs.Merged.{IsMerged}
+use Rattle.pg_spanned.specs.LogNumbers.{merge_error_number}
+use Rattle.pg_spanned.specs.LogReading.{log_reading}
+use Rattle.pg_spanned.specs.Runs.{AreOfOneRun, Explains}
 use Rattle.pg_report.specs.declared.error.AuditError.TheVariants as audits
 use Rattle.pg_report.specs.Changes.{Change, Fails}
 use Rattle.pg_report.specs.Numbers.{error_number, error_name}
 use Rattle.pg_spanned.specs.Orders.{Spanned}
-use Rattle.pg_span_codec.specs.Reading.{spanned_reading}
-use Rattle.pg_span_codec.specs.Spelling.{spanned_bytes, SpellsSpanned}
+use Rattle.pg_spanned.specs.Reading.{spanned_reading}
+use Rattle.pg_spanned.specs.Spelling.{spanned_bytes, SpellsSpanned}
 use Rattle.pg_answers.specs.Refusals.{StaysSame, Tells, refusal_line, refusal_text, place_text}
 use Rattle.pg_answers.specs.Refusals.{unopened_line}
 use Rattle.pg_ordering.specs.declared.logs.Stop.{Stop}

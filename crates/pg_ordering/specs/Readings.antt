@@ -3,8 +3,8 @@ use Rattle.std.specs.Prelude.{◌≡◌, ℕ, Bool, true, false, List, Option, I
 use Rattle.pg_codec.specs.Streams.{FailsWithDevice}
 use Rattle.pg_report.specs.Changes.{Change}
 use Rattle.pg_spanned.specs.Orders.{Spanned}
-use Rattle.pg_span_codec.specs.Reading.{spanned_reading}
-use Rattle.pg_span_codec.specs.Spelling.{SpellsSpanned}
+use Rattle.pg_spanned.specs.Reading.{spanned_reading}
+use Rattle.pg_spanned.specs.Spelling.{SpellsSpanned}
 use Rattle.pg_ordering.specs.declared.reading.Unread.{Unread}
 use Rattle.pg_ordering.specs.declared.reading.Unread.TheVariants.{Refused, Device, Memory}
 

@@ -2,8 +2,8 @@
 use Rattle.std.specs.Prelude.{ℕ, List, ◌++◌, codes, decimal}
 use Rattle.pg_report.specs.declared.error.AuditError.TheVariants as audits
 use Rattle.pg_answers.specs.Refusals.{refusal_line}
-use Rattle.pg_span_codec.specs.declared.refusal.SpannedRefusal.{SpannedRefusal}
-use Rattle.pg_span_codec.specs.declared.refusal.SpannedRefusal.TheVariants.{Plain, Back}
+use Rattle.pg_spanned.specs.declared.refusal.SpannedRefusal.{SpannedRefusal}
+use Rattle.pg_spanned.specs.declared.refusal.SpannedRefusal.TheVariants.{Plain, Back}
 
 -- as that of a record with one order; the span of an event that begins before the first event
 -- breaks rule 7

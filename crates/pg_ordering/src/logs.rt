@@ -7,7 +7,7 @@ ghost use Rattle.pg_ordering.specs.Merges.{IsLogOf, IsUntaken, ReadsLog, TakesLo
 ghost use Rattle.pg_ordering.specs.Openings.{opens};
 
 use pg_codec::{IntakeError, Source, pull_all};
-use pg_span_codec::{Log, LogError, LogRefusal, read_log};
+use pg_spanned::{Log, LogError, LogRefusal, read_log};
 use std::alloc::Global;
 use std::cell::Cell;
 

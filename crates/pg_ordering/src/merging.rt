@@ -1,11 +1,11 @@
 //! The record with spans that logs of single processors make, as `merge` writes it.
 
 ghost use Rattle.std.specs.Prelude.{◌≡◌, map};
-ghost use Rattle.pg_span_codec.specs.Runs.{AreOfOneRun};
-ghost use Rattle.pg_span_codec.specs.Merged.{IsMerged};
+ghost use Rattle.pg_spanned.specs.Runs.{AreOfOneRun};
+ghost use Rattle.pg_spanned.specs.Merged.{IsMerged};
 ghost use Rattle.pg_codec.specs.Writing.{Puts};
 ghost use Rattle.pg_report.specs.Changes.{filled};
-ghost use Rattle.pg_span_codec.specs.Spelling.{spanned_bytes};
+ghost use Rattle.pg_spanned.specs.Spelling.{spanned_bytes};
 ghost use Rattle.pg_ordering.specs.Answers.{GivesOut, WantsMemory};
 ghost use Rattle.pg_answers.specs.Refusals.{Tells};
 ghost use Rattle.pg_ordering.specs.Merges.{AnswersLogs, Merges, TellsUntaken, GivesRun};
@@ -21,7 +21,7 @@ use pg_answers::{
 };
 use pg_codec::{Failed, Sink, Source, put_all};
 use pg_report::AuditError;
-use pg_span_codec::{
+use pg_spanned::{
     Log, LogRefusal, MergeError, Setting, merge_logs, reading_of_spanned_spelling, spell_spanned,
 };
 use pg_spanned::SpannedRun;

@@ -2,11 +2,11 @@
 
 ghost use Rattle.std.specs.Prelude.{◌≡◌, ℕ, Some};
 ghost use Rattle.pg_codec.specs.Streams.{FailsWithDevice};
-ghost use Rattle.pg_span_codec.specs.Spelling.{SpellsSpanned};
+ghost use Rattle.pg_spanned.specs.Spelling.{SpellsSpanned};
 ghost use Rattle.pg_ordering.specs.Readings.{is_device, ReadsRun};
 
 use pg_codec::{IntakeError, Source, pull_all};
-use pg_span_codec::{SpannedError, SpannedRefusal, read_spanned, spelled_where_read};
+use pg_spanned::{SpannedError, SpannedRefusal, read_spanned, spelled_where_read};
 use pg_spanned::SpannedRun;
 use std::alloc::Global;
 use std::cell::Cell;

@@ -9,7 +9,7 @@ ghost use Rattle.pg_ordering.specs.Refusals.{spans_line};
 use pg_answers::{put_error, put_number};
 use pg_codec::{Failed, Sink, put_all};
 use pg_report::AuditError;
-use pg_span_codec::SpannedRefusal;
+use pg_spanned::SpannedRefusal;
 
 fn put_refusal<W: Sink>(errors: &mut W, refusal: SpannedRefusal) -> Result<(), Failed>
     ensures { Puts W.Sink (spans_line refusal) errors.old errors.new result }

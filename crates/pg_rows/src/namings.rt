@@ -5,7 +5,7 @@ use pg_cases::{
     Case, Row, answers, answers_by_bytes, ends_at_each_write, row_of, rows_of, run_on, walks,
 };
 use pg_codec::Watched;
-use pg_span_codec::Peeked;
+use pg_spanned::Peeked;
 use std::alloc::AllocGlobal;
 use std::process::Abort;
 use std::sync::Wait;

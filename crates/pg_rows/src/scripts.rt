@@ -4,7 +4,7 @@ ghost use Rattle.std.specs.Prelude.{None};
 
 use pg_cases::{Case, answers, answers_on, bytes_of};
 use pg_codec::{Failed, Source};
-use pg_span_codec::Peeked;
+use pg_spanned::Peeked;
 use std::alloc::{AllocError, Global};
 use std::test::Fail;
 

@@ -5,7 +5,7 @@ use Rattle.std.specs.List.{range_with_len}
 use Rattle.std.proofs.lemmas.List.FromFn.{length-range_with_len, get_or-range_with_len}
 use Rattle.std.proofs.lemmas.Option.{slice_get-get_or, slice_get_within, get_or_from_slice_get}
 use Rattle.pg_spanned.specs.Orders.{Spanned, MustPrecede, StandsBefore, IsOrder}
-use Rattle.pg_spanned.specs.Laws.{EndsAreAnOrder, EachPrecedesNext, NoOtherOrder}
+use Rattle.pg_spanned.specs.OrderLaws.{EndsAreAnOrder, EachPrecedesNext, NoOtherOrder}
 use Rattle.pg_spanned.proofs.Places.{stands_once}
 use Rattle.pg_spanned.proofs.Orders.{are_all}
 

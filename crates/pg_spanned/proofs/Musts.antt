@@ -9,7 +9,7 @@ use Rattle.pg_event.specs.Form.{processor_of}
 use Rattle.pg_spanned.specs.Orders.{Spanned, MustPrecede, AreOfOneProcessor, ended_before}
 use Rattle.pg_spanned.specs.declared.span.Span.{Span}
 use Rattle.pg_spanned.specs.Spans.{precedes, span_of}
-use Rattle.pg_spanned.specs.Laws.{PrecedesByMust}
+use Rattle.pg_spanned.specs.OrderLaws.{PrecedesByMust}
 
 one_of : (a b : Bool) → (a || b) ≡ true → (a ≡ true) ⊎ (b ≡ true)
 one_of true b h = inl refl

@@ -1,7 +1,7 @@
 //! Whether the events have one order alone.
 
 ghost use Rattle.std.specs.Prelude.{◌↔◌, IsTrue};
-ghost use Rattle.pg_spanned.specs.Laws.{EachPrecedesNext};
+ghost use Rattle.pg_spanned.specs.OrderLaws.{EachPrecedesNext};
 
 use crate::span::must_precede;
 use crate::spanned::SpannedRun;

@@ -31,7 +31,7 @@ use Rattle.pg_ordering.specs.Answers.{OrdersRecord}
 use Rattle.pg_ordering.specs.Shown.{ShowsSpans, TracesSpans}
 use Rattle.pg_ordering.specs.declared.asked.Asked.{Asked}
 use Rattle.pg_ordering.specs.declared.asked.Asked.TheVariants as asking
-use Rattle.pg_span_codec.specs.Versions.{says_spans}
+use Rattle.pg_spanned.specs.Versions.{says_spans}
 use Rattle.pg_tool.specs.declared.format.Format.{Format}
 use Rattle.pg_tool.specs.declared.format.Format.TheVariants as formats
 use Rattle.pg_tool.specs.Rendered.{AnswersRecord}

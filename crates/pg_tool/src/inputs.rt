@@ -20,7 +20,7 @@ use pg_codec::{Sink, Source};
 use pg_ordering::merge;
 use pg_plan::{Command, Invocation, Plan};
 use pg_runner::{Nobody, Observer};
-use pg_span_codec::Peeked;
+use pg_spanned::Peeked;
 use std::alloc::{AllocGlobal, Global};
 use std::sync::Wait;
 use std::thread::Threads;

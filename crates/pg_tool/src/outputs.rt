@@ -17,7 +17,7 @@ use pg_answers::{UNCREATED, USAGE, tell_text, tell_uncreated};
 use pg_codec::{Sink, Source};
 use pg_plan::{Command, Invocation};
 use pg_runner::Observer;
-use pg_span_codec::Peeked;
+use pg_spanned::Peeked;
 use std::alloc::AllocGlobal;
 use std::sync::Wait;
 use std::thread::Threads;

@@ -22,7 +22,7 @@ use pg_guest::{ScriptError, ScriptRefusal};
 use pg_plan::{Command, Invocation, Plan, RunOptions, Usage};
 use pg_report::AuditError;
 use pg_runner::{Nobody, Observer, RunError};
-use pg_span_codec::Peeked;
+use pg_spanned::Peeked;
 use std::alloc::AllocGlobal;
 use std::sync::Wait;
 use std::thread::Threads;

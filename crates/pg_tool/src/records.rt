@@ -27,7 +27,7 @@ use pg_plan::{
     Telling,
 };
 use pg_report::AuditError;
-use pg_span_codec::Peeked;
+use pg_spanned::Peeked;
 use std::alloc::{AllocGlobal, Global};
 use std::sync::Wait;
 use std::thread::Threads;

@@ -14,7 +14,7 @@ use pg_answers::tell_no_words;
 use pg_codec::{Sink, Source};
 use pg_plan::{NoWords, plan, words_of};
 use pg_runner::Observer;
-use pg_span_codec::Peeked;
+use pg_spanned::Peeked;
 use std::alloc::AllocGlobal;
 use std::sync::Wait;
 use std::thread::Threads;

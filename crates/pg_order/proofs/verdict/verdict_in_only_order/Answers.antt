@@ -1,6 +1,6 @@
 use Rattle.std.proofs.Common.{◌<◌, ◌≤◌, ℕ, List, length, subst, arith}
 use Rattle.pg_certify.specs.Certified.{IsDenied}
-use Rattle.pg_spanned.specs.Laws.{ends}
+use Rattle.pg_spanned.specs.OrderLaws.{ends}
 use Rattle.pg_spanned.specs.Orders.{Spanned, ordered}
 use Rattle.pg_relaxed.specs.Orders.{NeverComes}
 use Rattle.pg_order.specs.declared.in_order.InOrder.TheVariants.{Denied}

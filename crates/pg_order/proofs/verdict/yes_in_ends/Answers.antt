@@ -1,7 +1,7 @@
 use Rattle.std.proofs.Common.{◌≡◌, ℕ, List, ap, sym, subst, ◌∙◌, arith}
 use Rattle.std.specs.List.{range_with_len}
 use Rattle.pg_certify.specs.Certified.{HasRunButMoments}
-use Rattle.pg_spanned.specs.Laws.{ends}
+use Rattle.pg_spanned.specs.OrderLaws.{ends}
 use Rattle.pg_spanned.specs.Orders.{Spanned, ordered}
 use Rattle.pg_order.specs.declared.in_order.InOrder.TheVariants.{Denied}
 use Rattle.pg_order.specs.Runs.{IsToldOf}

@@ -1,6 +1,6 @@
 use Rattle.std.proofs.Common.{◌<◌, ◌+◌, ℕ, List, length, map, take, sym, subst}
 use Rattle.std.proofs.lemmas.List.{length-map}
-use Rattle.pg_span_codec.specs.Logs.{Logged}
+use Rattle.pg_spanned.specs.Logs.{Logged}
 use Rattle.pg_ordering.specs.Merges.{AreLogsOf}
 use Rattle.pg_ordering.specs.Openings.{opens}
 use Rattle.pg_ordering.proofs.Taking.{name_there, next_log}
