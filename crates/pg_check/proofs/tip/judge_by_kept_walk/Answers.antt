@@ -9,7 +9,7 @@ use Rattle.pg_check.specs.declared.lasting.Lasting.{Lasting}
 use Rattle.pg_check.specs.Lasting.{IsLasting}
 use Rattle.pg_check.specs.Ends.{failing_chain}
 use Rattle.pg_check.proofs.Reasons.{failing_access-ordered}
-use Rattle.pg_check.proofs.tip.failing_standing.Goals as goal
+use Rattle.pg_check.proofs.tip.judge_by_kept_walk.Goals as goal
 
 pub failing_leaf_chain-requires-clause-current : goal.failing_leaf_chain-requires-clause-current
 failing_leaf_chain-requires-clause-current c = λ head events h.
