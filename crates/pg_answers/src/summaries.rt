@@ -10,7 +10,7 @@ ghost use Rattle.pg_answers.specs.Answers.{AreCauses, AreExplanations, IsSummary
 
 use crate::answer::{Answer, Summary};
 use pg_check::History;
-use pg_explain::{Bad, Explanation, Writers, bads, explain_with, tallies};
+use pg_explain::{Bad, Explanation, WriterIndex, bads, explain_with, tallies};
 use pg_report::report_of;
 use std::alloc::{AllocError, Global};
 
@@ -32,7 +32,7 @@ fn summary_of(alloc: Global, found: &[Bad]) -> Result<Summary, AllocError>
 pub(crate) fn cause_of(
     alloc: Global,
     history: &History,
-    writers: &Option<Writers<'_>>,
+    writers: &Option<WriterIndex<'_>>,
     number: u64,
 ) -> Result<Explanation, AllocError>
     requires within { number < length history.now.events }
@@ -52,13 +52,13 @@ fn writers_for(
     alloc: Global,
     history: &History,
     count: usize,
-) -> Result<Option<Writers<'_>>, AllocError>
+) -> Result<Option<WriterIndex<'_>>, AllocError>
     ensures { IfOk result (AreKnown history.now.events) }
 {
     if count < MANY {
         return Ok(None);
     }
-    let writers = Writers::of(alloc, history)?;
+    let writers = WriterIndex::of(alloc, history)?;
     Ok(Some(writers))
 }
 

@@ -10,7 +10,7 @@ ghost use Rattle.pg_search.specs.Writers.{IsWriter};
 ghost use Rattle.pg_explain.specs.Walk.{IsTold, IsWalk, reading_at};
 ghost use Rattle.pg_explain.specs.Writers.{AreKnown};
 
-use crate::writers::Writers;
+use crate::writer_index::WriterIndex;
 use pg_chain::{EntryRead, kind_at};
 use pg_entry::{Entry, Kind, Level, combine, table_of};
 use pg_event::{Parent, below, entry_address, root_of};
@@ -84,7 +84,7 @@ pub(crate) fn read_steps(
 }
 
 /// Who wrote the word of an entry that is read.
-fn writer_of(seen: &Seen<'_>, writers: &Option<Writers<'_>>, step: EntryRead) -> Option<u32>
+fn writer_of(seen: &Seen<'_>, writers: &Option<WriterIndex<'_>>, step: EntryRead) -> Option<u32>
     requires { AreKnown seen.now.events writers.now }
     ensures { IsWriter seen.now.events step.address step.moment result }
 {
@@ -95,7 +95,7 @@ fn writer_of(seen: &Seen<'_>, writers: &Option<Writers<'_>>, step: EntryRead) ->
 }
 
 /// What is told of an entry that processor `p` reads.
-fn told(seen: &Seen<'_>, writers: &Option<Writers<'_>>, p: u16, step: EntryRead) -> WalkEntry
+fn told(seen: &Seen<'_>, writers: &Option<WriterIndex<'_>>, p: u16, step: EntryRead) -> WalkEntry
     requires processor { p < length seen.now.head.processors }
     requires writers { AreKnown seen.now.events writers.now }
     ensures told { IsTold seen.now.head seen.now.events p result }
@@ -113,7 +113,7 @@ fn told(seen: &Seen<'_>, writers: &Option<Writers<'_>>, p: u16, step: EntryRead)
 pub(crate) fn tell(
     alloc: Global,
     seen: &Seen<'_>,
-    writers: &Option<Writers<'_>>,
+    writers: &Option<WriterIndex<'_>>,
     p: u16,
     steps: &[EntryRead],
 ) -> Result<Vec<WalkEntry>, AllocError>

@@ -19,7 +19,7 @@ use crate::entry::{WalkEntry, last_step, read_steps, tell};
 use crate::finding::{Finding, Tagged};
 use crate::flag_finding::{accessed_finding, flag_finding, update_finding};
 use crate::walk_finding::{Asked, tagged, walk_finding};
-use crate::writers::Writers;
+use crate::writer_index::WriterIndex;
 use pg_chain::EntryRead;
 use pg_check::History;
 use pg_event::{Claim, Event, Moments, Request, Update, Want, processor_of, want_of};
@@ -126,7 +126,7 @@ fn mark_finding(
 fn tell_access(
     alloc: Global,
     history: &History,
-    writers: &Option<Writers<'_>>,
+    writers: &Option<WriterIndex<'_>>,
     claim: &Claim,
     moments: &[u32],
 ) -> Result<Option<Told>, AllocError>
@@ -155,7 +155,7 @@ fn tell_access(
 fn tell_assist(
     alloc: Global,
     history: &History,
-    writers: &Option<Writers<'_>>,
+    writers: &Option<WriterIndex<'_>>,
     update: &Update,
     moments: &[u32],
 ) -> Result<Option<Told>, AllocError>
@@ -184,7 +184,7 @@ fn tell_assist(
 fn tell_event(
     alloc: Global,
     history: &History,
-    writers: &Option<Writers<'_>>,
+    writers: &Option<WriterIndex<'_>>,
     number: u32,
     event: &Event,
 ) -> Result<Option<Told>, AllocError>
@@ -264,7 +264,7 @@ fn last_of(
 pub fn explain_with(
     alloc: Global,
     history: &History,
-    writers: &Option<Writers<'_>>,
+    writers: &Option<WriterIndex<'_>>,
     i: u64,
 ) -> Result<Option<Explanation>, AllocError>
     requires within { i < length history.now.events }

@@ -25,7 +25,7 @@ mod text;
 mod translation_drop;
 mod walk_finding;
 mod walk_text;
-mod writers;
+mod writer_index;
 
 pub use bad_events::{Bad, bads, bads_are_exact};
 pub use denial::{Denial, denials_among_kept, deny, deny_event};
@@ -47,4 +47,4 @@ pub use tally_lines::tally_text;
 pub use text::{deed_name, explanation_text, push_last};
 pub use walk_finding::is_table;
 pub use walk_text::push_entry;
-pub use writers::Writers;
+pub use writer_index::WriterIndex;

@@ -5,7 +5,7 @@ use Rattle.pg_explain.proofs.dropped.first_drop.Goals as goal
 
 pub loop-number-init : goal.loop-number-init
 loop-number-init c =
-    first_drop-after c.args.history.now.head c.args.history.now.events c.args.p c.args.key c.args.from c.args.to c.survives_to.result c.survives_to.ensures.order c.survives_to.ensures.survives
+    first_drop-after c.args.history.now.head c.args.history.now.events c.args.p c.args.key c.args.from c.args.to c.survives_to-number.result c.survives_to-number.ensures.order c.survives_to-number.ensures.survives
 
 pub loop-number-preserved : goal.loop-number-preserved
 loop-number-preserved c =

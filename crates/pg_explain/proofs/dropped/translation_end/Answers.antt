@@ -1,10 +1,10 @@
-use Rattle.std.proofs.Common.{◌≡◌, ℕ, Bool, List, Some, None, subst}
+use Rattle.std.proofs.Common.{ℕ, Bool, List}
 use Rattle.pg_event.specs.declared.control.Control.{Control}
 use Rattle.pg_event.specs.declared.event.Event.{Event}
 use Rattle.pg_event.specs.Heads.{Head}
 use Rattle.pg_event.specs.Invalidation.{must_drop_translation}
 use Rattle.pg_event.specs.Witness.{survives}
-use Rattle.pg_explain.proofs.Firsts.{survives_first, survives-some, survives-none}
+use Rattle.pg_explain.proofs.Firsts.{survives-some, survives-none}
 use Rattle.pg_explain.proofs.dropped.translation_end.Goals as goal
 
 pub returns-in-Some-clause-order : goal.returns-in-Some-clause-order

@@ -1,9 +1,9 @@
-use Rattle.std.proofs.Common.{◌≡◌, ◌+◌, ◌<◌, Some, length, arith, ap, sym, ◌∙◌}
+use Rattle.std.proofs.Common.{◌≡◌, ◌<◌, Some, length, arith, ap, sym, ◌∙◌}
 use Rattle.std.specs.Prelude.{slice_get}
 use Rattle.std.proofs.lemmas.Option.{slice_get-get_or}
 use Rattle.pg_event.specs.declared.event.Event.{Event}
 use Rattle.pg_explain.proofs.Noted.{next_known, all_known}
-use Rattle.pg_explain.proofs.writers.behind_writers.Goals as goal
+use Rattle.pg_explain.proofs.writer_index.behind_writers.Goals as goal
 
 pub loop-i-preserved : goal.loop-i-preserved
 loop-i-preserved c =

@@ -13,13 +13,13 @@ use std::marker::Model;
 
 /// The events of a run, with what tells at once which of them wrote a word.
 #[derive(Drop)]
-pub struct Writers<'a> {
+pub struct WriterIndex<'a> {
     events: &'a [Event],
     /// In the place of each word's values the numbers behind the events that wrote it.
     behind: Versions,
 }
 
-impl<'a> Model for Writers<'a> {
+impl<'a> Model for WriterIndex<'a> {
     ghost use Rattle.std.specs.Prelude.{List};
     ghost use Rattle.pg_event.specs.declared.event.Event.{Event};
     ghost use Rattle.pg_explain.specs.Writers.{AreWriters};
@@ -56,14 +56,14 @@ fn behind_writers(alloc: Global, events: &[Event]) -> Result<Versions, AllocErro
     Ok(behind)
 }
 
-impl<'a> Writers<'a> {
+impl<'a> WriterIndex<'a> {
     /// Looks once through the events of a run. Fails only when out of memory.
-    pub fn of(alloc: Global, history: &'a History) -> Result<Writers<'a>, AllocError>
+    pub fn of(alloc: Global, history: &'a History) -> Result<WriterIndex<'a>, AllocError>
         ensures { IfOk result (λ writers. writers ≡ history.now.events) }
     {
         let events = history.events();
         let behind = behind_writers(alloc, events)?;
-        Ok(Writers { events, behind })
+        Ok(WriterIndex { events, behind })
     }
 
     /// The last event below a moment that writes the word at a physical address.
