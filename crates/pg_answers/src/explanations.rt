@@ -52,7 +52,7 @@ fn caused(alloc: Global, history: History) -> Result<Answer, AllocError>
     match report.verdict {
         Verdict::Yes => Ok(Answer::Report(report)),
         Verdict::No { event, .. } => {
-            let cause = cause_of(alloc, &history, event)?;
+            let cause = cause_of(alloc, &history, &None, event)?;
             let allowed = allowed_in(alloc, &history, event)?;
             Ok(Answer::Cause(report, history, cause, allowed))
         }

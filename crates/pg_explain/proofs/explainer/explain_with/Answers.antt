@@ -7,7 +7,7 @@ use Rattle.pg_event.specs.declared.event.Reason.{Reason}
 use Rattle.pg_event.specs.Heads.{Head}
 use Rattle.pg_event.specs.Witness.{failing_event}
 use Rattle.pg_search.specs.Law.{names_moments}
-use Rattle.pg_explain.proofs.explainer.explain.Goals as goal
+use Rattle.pg_explain.proofs.explainer.explain_with.Goals as goal
 
 -- only an access and an assist can fail
 failing_names : (head : Head) (events : List Event) (i : ℕ) (e : Event) (r : Reason) → failing_event head events i e ≡ Some r → names_moments e ≡ true
@@ -22,27 +22,27 @@ failing_names head events i (MovCr4Pge p on) r h = absurd cc
 pub returns-in-None : goal.returns-in-None
 returns-in-None c =
     let at : slice_get c.args.history.now.events c.args.i ≡ Some c.index-events-i.result =
-    slice_get_read _ _ _ _ refl c.requires (rw c.events.ensures.events at c.index-events-i.is) in
+    slice_get_read _ _ _ _ refl c.requires.within (rw c.events.ensures.events at c.index-events-i.is) in
     rw at (rw c.in-None.is at c.in_ok-tell_event.ensures)
 
 pub freshest_moments-requires-clause-names : goal.freshest_moments-requires-clause-names
 freshest_moments-requires-clause-names c =
     let at : slice_get c.args.history.now.events c.args.i ≡ Some c.index-events-i.result =
-    slice_get_read _ _ _ _ refl c.requires (rw c.events.ensures.events at c.index-events-i.is) in
+    slice_get_read _ _ _ _ refl c.requires.within (rw c.events.ensures.events at c.index-events-i.is) in
     let told = rw c.in-Some.is at c.in_ok-tell_event.ensures in
     rw at (failing_names c.args.history.now.head c.args.history.now.events c.args.i c.index-events-i.result _ told.0)
 
 pub last_of-requires-clause-names : goal.last_of-requires-clause-names
 last_of-requires-clause-names c =
     let at : slice_get c.args.history.now.events c.args.i ≡ Some c.index-events-i.result =
-    slice_get_read _ _ _ _ refl c.requires (rw c.events.ensures.events at c.index-events-i.is) in
+    slice_get_read _ _ _ _ refl c.requires.within (rw c.events.ensures.events at c.index-events-i.is) in
     let told = rw c.in-Some.is at c.in_ok-tell_event.ensures in
     rw at (failing_names c.args.history.now.head c.args.history.now.events c.args.i c.index-events-i.result _ told.0)
 
 pub returns-in_ok-last-in-Some : goal.returns-in_ok-last-in-Some
 returns-in_ok-last-in-Some c =
     let at : slice_get c.args.history.now.events c.args.i ≡ Some c.index-events-i.result =
-    slice_get_read _ _ _ _ refl c.requires (rw c.events.ensures.events at c.index-events-i.is) in
+    slice_get_read _ _ _ _ refl c.requires.within (rw c.events.ensures.events at c.index-events-i.is) in
     let told = rw c.in-Some.is at c.in_ok-tell_event.ensures in
     let found = c.in_ok-other-in-Some.ensures in
     record {
