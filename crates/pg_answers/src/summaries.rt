@@ -14,7 +14,8 @@ use pg_explain::{Bad, Explanation, WriterIndex, bads, explain_with, tallies};
 use pg_report::report_of;
 use std::alloc::{AllocError, Global};
 
-/// To look through all events for writers costs about as much as the passes that so many causes take.
+/// To look through all events for writers costs about as much as the passes that so many causes
+/// take.
 const MANY: usize = 4;
 
 /// How many bad events there are, and what those with one reason have in common.
@@ -46,8 +47,8 @@ pub(crate) fn cause_of(
     }
 }
 
-/// The writers of a history, where so many events are explained that this costs less than the passes
-/// that it saves.
+/// The writers of a history, where so many events are explained that this costs less than the
+/// passes that it saves.
 fn writers_for(
     alloc: Global,
     history: &History,
