@@ -106,7 +106,10 @@ impl<J: Judging + Drop> Certifier<J> {
     {
         moments_fit(moments);
         let guessed = with_moments(event, moments);
-        self.judging.judge_quickly(i, &guessed)
+        match self.judging.judge_quickly(i, &guessed) {
+            Judgement::Decided(found) => Judgement::Decided(found),
+            Judgement::Unknown => Judgement::Unknown,
+        }
     }
 
     /// Judges an event by these moments, as far as `speed` asks.
