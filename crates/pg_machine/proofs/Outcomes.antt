@@ -1,5 +1,5 @@
 -- The stepper's tests of an access and of an assist decide whether it may come.
-use Rattle.std.proofs.Common.{◌≡◌, ℕ, ◌+◌, ◌%◌, ◌^◌, Bool, true, ◌&&◌, refl, ap, subst, ◌∙◌, sym, ⊎_elim}
+use Rattle.std.proofs.Common.{◌≡◌, ℕ, ◌+◌, ◌%◌, ◌^◌, Bool, true, refl, ap, subst, ◌∙◌, sym, ⊎_elim}
 use Rattle.std.proofs.lemmas.Bool.{or_cases, or_left, or_right, and_parts, and_from, eqb-true, eq-eqb, not-true, not_from_false}
 use Rattle.pg_entry.specs.declared.Cfg.{Cfg}
 use Rattle.pg_entry.specs.declared.AccessKind.{AccessKind}
