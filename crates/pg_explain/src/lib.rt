@@ -23,6 +23,7 @@ mod tallier;
 mod tally_lines;
 mod text;
 mod translation_drop;
+mod walk_end;
 mod walk_finding;
 mod walk_text;
 
@@ -34,15 +35,16 @@ pub use explainer::{Explanation, explain};
 pub use filter::{fits, is_marked, marks_of, pages_show_their_drops, shown_text};
 pub use finding::{Finding, Limit, Misfit, Prevention, Tagged, Wish};
 pub use finding_text::{push_finding, push_numbered};
-pub use last_lines::{Takers, push_last_moments, taken_in};
+pub use last_lines::{Takers, push_last_moments, taken_in, taker};
 pub use laws::{
     findings_stand_behind_reasons, others_leave_the_word, unwritten_words_stay,
     writers_leave_the_word,
 };
-pub use line::event_at;
+pub use line::{event_at, processor_at};
 pub use names::{level_number, rights_text};
 pub use tallier::{Tally, counts_add_up, tallies};
 pub use tally_lines::tally_text;
 pub use text::{deed_name, explanation_text, push_last};
+pub use walk_end::down_to_end;
 pub use walk_finding::is_table;
-pub use walk_text::push_entry;
+pub use walk_text::{kind_name, push_entry};

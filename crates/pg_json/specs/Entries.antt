@@ -3,12 +3,12 @@
 --     level, moment, pcid  where the walk reads it, when, and under which PCID
 --     word, value, is      its physical address, what it holds, and what that is
 --     written_by           the event that wrote the value, or null
-use Rattle.std.specs.Prelude.{ℕ, if◌then◌else◌, List, [], ◌∷◌, map, Option, Some, None, codes}
+use Rattle.std.specs.Prelude.{ℕ, List, map, Option, Some, None, codes}
 use Rattle.pg_entry.specs.declared.Kind.{Kind}
-use Rattle.pg_event.specs.Wants.{is_table}
 use Rattle.pg_explain.specs.declared.entry.WalkEntry.{WalkEntry}
 use Rattle.pg_explain.specs.Names.{level_number}
 use Rattle.pg_explain.specs.Text.{kind_name}
+use Rattle.pg_explain.specs.Walk.{down_to_end}
 use Rattle.pg_json.specs.Tree.{Json, nothing, count, text, list, object, elements, hex}
 use Rattle.pg_json.specs.Tree.{Fields, no_fields, field}
 
@@ -30,10 +30,5 @@ entry_json x = object (
     (with_held x.step.address x.step.value x.kind
     (field (codes "written_by") (number_json x.writer) no_fields)))))
 
--- the entries down to the first that is no table
-abbrev pub told_entries : List WalkEntry → List WalkEntry
-told_entries [] = []
-told_entries (x ∷ xs) = x ∷ (if is_table x.kind then told_entries xs else [])
-
 abbrev pub walk_json : List WalkEntry → Json
-walk_json walk = list (elements (map entry_json (told_entries walk)))
+walk_json walk = list (elements (map entry_json (down_to_end walk)))

@@ -2,39 +2,15 @@
 
 ghost use Rattle.std.specs.Prelude.{◌≡◌, map, IfOk, OnOk};
 ghost use Rattle.serde_json.specs.View.{view, members_view};
-ghost use Rattle.pg_event.specs.Wants.{is_table};
-ghost use Rattle.pg_explain.specs.Text.{kind_name};
 ghost use Rattle.pg_json.specs.Tree.{data_of, members_of, Fields as Told};
-ghost use Rattle.pg_json.specs.Entries.{number_json, with_held, entry_json};
-ghost use Rattle.pg_json.specs.Entries.{told_entries, walk_json};
+ghost use Rattle.pg_json.specs.Entries.{number_json, with_held, entry_json, walk_json};
 
 use crate::fields::{Fields, list_of, put_count, put_hex, put_text};
 use pg_chain::EntryRead;
 use pg_entry::Kind;
-use pg_explain::{WalkEntry, level_number};
+use pg_explain::{WalkEntry, down_to_end, kind_name, level_number};
 use serde_json::{Map, Value, put};
 use std::alloc::{AllocError, Global};
-
-/// What an entry is.
-pub(crate) fn kind_name(kind: Kind) -> &'static str
-    ensures { result.now ≡ kind_name kind }
-{
-    match kind {
-        Kind::Absent => "absent",
-        Kind::Reserved => "reserved",
-        Kind::Table { .. } => "table",
-        Kind::Leaf { .. } => "leaf",
-    }
-}
-
-fn is_table(kind: Kind) -> bool
-    ensures { result ≡ is_table kind }
-{
-    match kind {
-        Kind::Table { .. } => true,
-        Kind::Leaf { .. } | Kind::Absent | Kind::Reserved => false,
-    }
-}
 
 /// The number of an event, or null where there is none.
 pub fn number_json(number: Option<u32>) -> Value
@@ -82,20 +58,6 @@ fn entry_json(alloc: Global, entry: &WalkEntry) -> Result<Value, AllocError>
     Ok(Value::Object(fields))
 }
 
-/// The entries down to the first that is no table.
-fn told_entries(alloc: Global, walk: &[WalkEntry]) -> Result<Vec<WalkEntry>, AllocError>
-    ensures { IfOk result (λ xs. xs.items ≡ told_entries walk.now) }
-{
-    let mut told = Vec::new(alloc);
-    for entry in walk {
-        told.push(*entry)?;
-        if !is_table(entry.kind) {
-            return Ok(told);
-        }
-    }
-    Ok(told)
-}
-
 fn entries(alloc: Global, walk: &[WalkEntry]) -> Result<Vec<Value>, AllocError>
     ensures { IfOk result (λ vs. map view vs.items ≡ map (λ x. data_of (entry_json x)) walk.now) }
 {
@@ -111,7 +73,6 @@ fn entries(alloc: Global, walk: &[WalkEntry]) -> Result<Vec<Value>, AllocError>
 pub fn walk_json(alloc: Global, walk: &[WalkEntry]) -> Result<Value, AllocError>
     ensures { IfOk result (λ v. view v ≡ data_of (walk_json walk.now)) }
 {
-    let told = told_entries(alloc, walk)?;
-    let values = entries(alloc, &told)?;
+    let values = entries(alloc, down_to_end(walk))?;
     Ok(list_of(values))
 }

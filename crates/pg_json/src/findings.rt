@@ -10,13 +10,15 @@ ghost use Rattle.pg_json.specs.Findings.{held_fields, prevention_json, right_fie
 ghost use Rattle.pg_json.specs.Findings.{flag_fields, misfit_of, misfit_fields};
 ghost use Rattle.pg_json.specs.Findings.{expected_fields, finding_fields, finding_json};
 
-use crate::entries::{kind_name, put_held};
+use crate::entries::put_held;
 use crate::events::{op_name, outcome_json};
 use crate::fields::{Fields, put_count, put_flag, put_hex, put_text};
 use crate::lasts::event_at;
 use pg_entry::{AccessKind, Kind, Level, Rights};
 use pg_event::{Event, Outcome, Want};
-use pg_explain::{Finding, Limit, Misfit, Prevention, Tagged, Wish, level_number, rights_text};
+use pg_explain::{
+    Finding, Limit, Misfit, Prevention, Tagged, Wish, kind_name, level_number, rights_text,
+};
 use serde_json::{Map, Value, put};
 use std::alloc::{AllocError, Global};
 

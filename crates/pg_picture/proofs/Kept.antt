@@ -1,17 +1,9 @@
--- Which entries and numbers a loop keeps.
-use Rattle.std.proofs.Common.{◌≡◌, ℕ, ◌+◌, true, false, List, [], ◌∷◌, if◌then◌else◌, ap, sym}
+-- Which numbers a loop keeps.
+use Rattle.std.proofs.Common.{◌≡◌, ℕ, ◌+◌, true, false, List, ◌∷◌, if◌then◌else◌, ap}
 use Rattle.pg_event.specs.declared.event.Event.{Event}
-use Rattle.pg_event.specs.Wants.{is_table}
 use Rattle.pg_explain.specs.declared.entry.WalkEntry.{WalkEntry}
 use Rattle.pg_explain.specs.declared.explainer.Explanation.{Explanation}
-use Rattle.pg_picture.specs.Named.{down_to_end, is_named, named_from}
-
--- a walk goes on after a table, and ends with any other entry
-pub goes_on : (x : WalkEntry) (xs : List WalkEntry) → true ≡ is_table x.kind → down_to_end (x ∷ xs) ≡ x ∷ down_to_end xs
-goes_on x xs table = ap (λ b. x ∷ (if b then down_to_end xs else [])) (sym table)
-
-pub ends : (x : WalkEntry) (xs : List WalkEntry) → false ≡ is_table x.kind → down_to_end (x ∷ xs) ≡ x ∷ []
-ends x xs other = ap (λ b. x ∷ (if b then down_to_end xs else [])) (sym other)
+use Rattle.pg_picture.specs.Named.{is_named, named_from}
 
 -- the next event, where it is named and where it is not
 pub named_next : (x : Explanation) (walk : List WalkEntry) (j : ℕ) (e : Event) (es : List Event) → is_named x walk j ≡ true → named_from x walk j (e ∷ es) ≡ j ∷ named_from x walk (j + 1) es

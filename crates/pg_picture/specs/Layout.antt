@@ -4,14 +4,14 @@
 -- then one of the walk, then the arrows, each in a column of its own, and then the boxes with their
 -- texts.
 use Rattle.std.specs.Prelude.{◌≡◌, ℕ, ◌+◌, ◌*◌, Bool, ◌||◌, ◌==◌, nat_lt, if◌then◌else◌}
-use Rattle.std.specs.Prelude.{List, [], ◌∷◌, ◌++◌, length, map, take, Option, Some, None, slice_get}
+use Rattle.std.specs.Prelude.{List, [], ◌∷◌, ◌++◌, length, map, take, Option, Some, None}
 use Rattle.std.specs.List.{count_by, list_any}
 use Rattle.pg_event.specs.declared.event.Event.{Event}
-use Rattle.pg_event.specs.Form.{processor_of}
 use Rattle.pg_event.specs.Heads.{Head}
 use Rattle.pg_explain.specs.declared.entry.WalkEntry.{WalkEntry}
 use Rattle.pg_explain.specs.declared.explainer.Explanation.{Explanation}
 use Rattle.pg_explain.specs.declared.finding.Finding.{Finding}
+use Rattle.pg_explain.specs.Line.{processor_at}
 use Rattle.pg_explain.specs.Text.{numbered_text, finding_text, entry_text}
 use Rattle.pg_picture.specs.declared.placer.Role.{Role}
 use Rattle.pg_picture.specs.declared.placer.Role.TheVariants as roles
@@ -51,13 +51,6 @@ entry_row numbers walk i w =
     below numbers w + (read_below walk w + read_at (take i walk) w)
 
 -- ---- lanes
-
-abbrev pub processor_or : Option Event → ℕ
-processor_or None = 0
-processor_or (Some e) = processor_of e
-
-abbrev pub processor_at : List Event → ℕ → ℕ
-processor_at events j = processor_or (slice_get events j)
 
 -- whether one of the events with these numbers is of processor p
 abbrev pub takes_part : List Event → List ℕ → ℕ → Bool

@@ -5,18 +5,14 @@ use Rattle.std.specs.Prelude.{List, [], ◌∷◌, Option, Some, None, take}
 use Rattle.std.specs.List.{list_any}
 use Rattle.pg_entry.specs.declared.Level.{Level}
 use Rattle.pg_event.specs.declared.event.Event.{Event}
-use Rattle.pg_event.specs.Wants.{is_table}
 use Rattle.pg_explain.specs.declared.entry.WalkEntry.{WalkEntry}
 use Rattle.pg_explain.specs.declared.explainer.Explanation.{Explanation}
 use Rattle.pg_explain.specs.declared.finding.Finding.{Finding}
 use Rattle.pg_explain.specs.declared.finding.Finding.TheVariants as findings
+use Rattle.pg_explain.specs.Findings.{dropper}
+use Rattle.pg_explain.specs.Lasts.{taker}
 use Rattle.pg_explain.specs.Names.{level_number}
-use Rattle.pg_search.specs.declared.last.Last.{Last}
-
--- the entries of a walk down to the first that is no table
-abbrev pub down_to_end : List WalkEntry → List WalkEntry
-down_to_end [] = []
-down_to_end (x ∷ xs) = x ∷ (if is_table x.kind then down_to_end xs else [])
+use Rattle.pg_explain.specs.Walk.{down_to_end}
 
 -- the entries that are drawn: a walk has four levels
 abbrev pub drawn : List WalkEntry → List WalkEntry
@@ -25,22 +21,6 @@ drawn walk = down_to_end (take 4 walk)
 abbrev pub is_at : ℕ → Option ℕ → Bool
 is_at j None = false
 is_at j (Some k) = k == j
-
--- the event by which an entry had to go
-abbrev pub dropper : Finding → Option ℕ
-dropper (findings.Order level moment limit) = None
-dropper (findings.Entry level wish kind) = None
-dropper (findings.Context first other) = None
-dropper (findings.StructureDropped level at) = Some at
-dropper (findings.TranslationDropped level at) = Some at
-dropper (findings.ForeignPcid read current) = None
-dropper (findings.NotAtEvent moment address value kind) = None
-dropper (findings.Rights rights access allowed prevention) = None
-dropper (findings.Answer expected) = None
-dropper (findings.Code expected) = None
-dropper (findings.Accessed level address value) = None
-dropper (findings.Dirty address value) = None
-dropper (findings.Assist misfit) = None
 
 abbrev pub drop_at : Level → Level → ℕ → Option ℕ
 drop_at here level at = if level_number here == level_number level then Some at else None
@@ -60,12 +40,6 @@ dropper_of here (findings.Code expected) = None
 dropper_of here (findings.Accessed level address value) = None
 dropper_of here (findings.Dirty address value) = None
 dropper_of here (findings.Assist misfit) = None
-
--- the event after which no moments prove the bad one
-abbrev pub taker : Option (List ℕ) → Option Last → Option ℕ
-taker None None = None
-taker None (Some last) = Some last.number
-taker (Some ws) last = None
 
 abbrev pub is_dropper : Explanation → ℕ → Bool
 is_dropper x j = is_at j (dropper x.finding)

@@ -1,49 +1,23 @@
 //! Which events and entries of an explanation are drawn.
 
 ghost use Rattle.std.specs.Prelude.{◌≡◌, ◌<◌, ◌≤◌, ◌^◌, length, IfOk};
-ghost use Rattle.pg_event.specs.Wants.{is_table};
-ghost use Rattle.pg_picture.specs.Named.{down_to_end, drawn, is_at, dropper, drop_at, dropper_of};
-ghost use Rattle.pg_picture.specs.Named.{taker, is_dropper, is_taker, is_writer, is_named, named};
+ghost use Rattle.pg_picture.specs.Named.{drawn, is_at, drop_at, dropper_of};
+ghost use Rattle.pg_picture.specs.Named.{is_dropper, is_taker, is_writer, is_named, named};
 
-use pg_entry::{Kind, Level};
-use pg_event::{Event, Moments};
-use pg_explain::{Explanation, Finding, WalkEntry, level_number};
-use pg_search::Last;
+use pg_entry::Level;
+use pg_event::Event;
+use pg_explain::{Explanation, Finding, WalkEntry, down_to_end, level_number, taker};
 use std::alloc::{AllocError, Global};
 
 /// How many levels a walk has.
 const LEVELS: usize = 4;
 
-fn is_table(kind: Kind) -> bool
-    ensures { result ≡ is_table kind }
-{
-    match kind {
-        Kind::Table { .. } => true,
-        Kind::Leaf { .. } | Kind::Absent | Kind::Reserved => false,
-    }
-}
-
-/// The entries down to the first that is no table.
-fn down_to_end(alloc: Global, walk: &[WalkEntry]) -> Result<Vec<WalkEntry>, AllocError>
-    ensures entries { IfOk result (λ found. found.items ≡ down_to_end walk.now) }
-    ensures count { IfOk result (λ found. length found.items ≤ length walk.now) }
-{
-    let mut found = Vec::new(alloc);
-    for entry in walk {
-        found.push(*entry)?;
-        if !is_table(entry.kind) {
-            return Ok(found);
-        }
-    }
-    Ok(found)
-}
-
 /// The entries of a walk that are drawn.
-pub(crate) fn drawn(alloc: Global, walk: &[WalkEntry]) -> Result<Vec<WalkEntry>, AllocError>
-    ensures entries { IfOk result (λ found. found.items ≡ drawn walk.now) }
-    ensures count { IfOk result (λ found. length found.items ≤ 4) }
+pub(crate) fn drawn(walk: &[WalkEntry]) -> &[WalkEntry]
+    ensures entries { result.now ≡ drawn walk.now }
+    ensures count { length result.now ≤ 4 }
 {
-    down_to_end(alloc, &walk[..LEVELS.min(walk.len())])
+    down_to_end(&walk[..LEVELS.min(walk.len())])
 }
 
 fn is_at(number: u32, at: Option<u32>) -> bool
@@ -52,26 +26,6 @@ fn is_at(number: u32, at: Option<u32>) -> bool
     match at {
         None => false,
         Some(at) => at == number,
-    }
-}
-
-/// The event by which an entry had to go.
-fn dropper(finding: Finding) -> Option<u32>
-    ensures { result ≡ dropper finding }
-{
-    match finding {
-        Finding::StructureDropped { at, .. } | Finding::TranslationDropped { at, .. } => Some(at),
-        Finding::Order { .. }
-        | Finding::Entry { .. }
-        | Finding::Context { .. }
-        | Finding::ForeignPcid { .. }
-        | Finding::NotAtEvent { .. }
-        | Finding::Rights { .. }
-        | Finding::Answer { .. }
-        | Finding::Code { .. }
-        | Finding::Accessed { .. }
-        | Finding::Dirty { .. }
-        | Finding::Assist(_) => None,
     }
 }
 
@@ -107,21 +61,11 @@ pub(crate) fn dropper_of(here: Level, finding: Finding) -> Option<u32>
     }
 }
 
-/// The event after which no moments prove the bad one.
-fn taker(other: Option<Moments>, last: Option<Last>) -> Option<u32>
-    ensures { result ≡ taker other last }
-{
-    match (other, last) {
-        (None, Some(last)) => Some(last.number),
-        (None, None) | (Some(_), _) => None,
-    }
-}
-
 /// Whether an entry had to go by this event.
 pub(crate) fn is_dropper(explanation: &Explanation, number: u32) -> bool
     ensures { result ≡ is_dropper explanation.now number }
 {
-    is_at(number, dropper(explanation.finding))
+    is_at(number, explanation.finding.dropper())
 }
 
 /// Whether no moments prove the bad event after this one.

@@ -3,7 +3,7 @@
 ghost use Rattle.std.specs.Prelude.{◌≡◌, ◌+◌, ◌<◌, ◌≤◌, ◌^◌, ◌++◌, length, IfOk, OnOk};
 ghost use Rattle.std.specs.List.{list_any};
 ghost use Rattle.pg_explain.specs.Text.{numbered_text, finding_text, entry_text};
-ghost use Rattle.pg_picture.specs.Layout.{processor_at, takes_part, lanes, lane_x, role_of};
+ghost use Rattle.pg_picture.specs.Layout.{takes_part, lanes, lane_x, role_of};
 ghost use Rattle.pg_picture.specs.Layout.{event_box, event_boxes, entry_boxes, write_arrow};
 ghost use Rattle.pg_picture.specs.Layout.{drop_arrow, arrows_to, arrows, is_long, has_long};
 ghost use Rattle.pg_picture.specs.Layout.{letters, IsLaid, IsLayout};
@@ -11,8 +11,10 @@ ghost use Rattle.pg_picture.specs.Layout.{letters, IsLaid, IsLayout};
 use crate::named::{drawn, dropper_of, is_dropper, is_taker, named};
 use crate::rows::{entry_top, event_top, height};
 use pg_check::History;
-use pg_event::{Event, processor_of};
-use pg_explain::{Explanation, Finding, WalkEntry, push_entry, push_finding, push_numbered};
+use pg_event::Event;
+use pg_explain::{
+    Explanation, Finding, WalkEntry, processor_at, push_entry, push_finding, push_numbered,
+};
 use std::alloc::{AllocError, Global};
 
 /// What an event is to the bad one.
@@ -88,16 +90,6 @@ pub struct Layout {
     /// From level 4 down.
     pub entries: Vec<EntryBox>,
     pub arrows: Vec<Arrow>,
-}
-
-/// The processor of the event with this number.
-fn processor_at(events: &[Event], number: u32) -> u16
-    ensures { result ≡ processor_at events.now number }
-{
-    match events.get(number as usize) {
-        None => 0,
-        Some(event) => processor_of(event),
-    }
 }
 
 /// Whether one of the events with these numbers is of a processor.
@@ -464,7 +456,7 @@ pub fn lay_out(
 ) -> Result<Layout, AllocError>
     ensures { IfOk result (IsLayout history.now.head history.now.events explanation.now) }
 {
-    let walk = drawn(alloc, &explanation.walk)?;
-    let numbers = named(alloc, explanation, &walk, history.events())?;
-    laid(alloc, history, explanation, &walk, &numbers)
+    let walk = drawn(&explanation.walk);
+    let numbers = named(alloc, explanation, walk, history.events())?;
+    laid(alloc, history, explanation, walk, &numbers)
 }
