@@ -1,7 +1,7 @@
 -- What is written of a record with no one order.
 use Rattle.std.specs.Prelude.{ℕ, List, [], ◌++◌, length, Option, Some, None, codes, decimal}
 use Rattle.std.specs.List.{flat_map}
-use Rattle.std.specs.Int.{div_ceil}
+use Rattle.pg_event.specs.Spelling.{segment_count}
 use Rattle.pg_report.specs.Text.{counts_text}
 use Rattle.pg_order.specs.declared.verdict.Verdict.{Verdict}
 use Rattle.pg_order.specs.declared.verdict.Verdict.TheVariants.{Yes, Never, NoneOfAll, Undecided}
@@ -13,7 +13,7 @@ use Rattle.pg_trace.specs.Spans.{document_text, never_mark}
 
 -- how many segments hold all events
 abbrev pub segments_of : Spanned → ℕ
-segments_of s = div_ceil (length s.events) s.head.segment
+segments_of s = segment_count (record { head = s.head; events = s.events })
 
 abbrev pub counts_of : Spanned → List ℕ
 counts_of s = counts_text (length s.events) (segments_of s)

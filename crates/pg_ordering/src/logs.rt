@@ -6,6 +6,7 @@ ghost use Rattle.pg_codec.specs.Streams.{FailsWithDevice};
 ghost use Rattle.pg_ordering.specs.Merges.{IsLogOf, IsUntaken, ReadsLog, TakesLogs, is_device};
 ghost use Rattle.pg_ordering.specs.Openings.{opens};
 
+use crate::reading::{MOST, tell_unread};
 use pg_codec::{IntakeError, Source, pull_all};
 use pg_span_codec::{Log, LogError, LogRefusal, read_log};
 use std::alloc::Global;
@@ -33,9 +34,6 @@ pub(crate) enum Stop {
     Memory,
 }
 
-/// More bytes than memory can hold.
-const MOST: usize = usize::MAX - 1;
-
 /// The log that a source has left. The source hears how many of the bytes were not read, if they
 /// are refused.
 fn log_in<R: Source>(alloc: Global, source: &mut R) -> Result<Log, Untaken>
@@ -50,9 +48,7 @@ fn log_in<R: Source>(alloc: Global, source: &mut R) -> Result<Log, Untaken>
     };
     let unread = Cell::new(0);
     let log = read_log(alloc, &bytes, &unread);
-    if log.is_err() {
-        source.stop(unread.get());
-    }
+    tell_unread(source, log.is_err(), unread.get());
     match log {
         Ok(log) => Ok(log),
         Err(LogError::Refused(refusal)) => Err(Untaken::Refused(refusal)),

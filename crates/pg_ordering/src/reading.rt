@@ -23,7 +23,7 @@ pub enum Unread {
 }
 
 /// More bytes than memory can hold.
-const MOST: usize = usize::MAX - 1;
+pub(crate) const MOST: usize = usize::MAX - 1;
 
 fn read_bytes(alloc: Global, bytes: &[u8], unread: &Cell<usize>) -> Result<SpannedRun, Unread>
     ensures reads { ReadsRun (Some bytes.now) result }
@@ -38,7 +38,7 @@ fn read_bytes(alloc: Global, bytes: &[u8], unread: &Cell<usize>) -> Result<Spann
 }
 
 /// Tells a source how many of the pulled bytes were not read, where they are refused.
-fn tell_unread<R: Source>(input: &mut R, is_refused: bool, unread: usize)
+pub(crate) fn tell_unread<R: Source>(input: &mut R, is_refused: bool, unread: usize)
     ensures left { R.left input.new ≡ R.left input.old }
     ensures failed { R.failed input.new ≡ R.failed input.old }
 {

@@ -1,5 +1,4 @@
 mod Parts
 mod Items
-mod Bad
 pub mod Reading
 pub mod Given

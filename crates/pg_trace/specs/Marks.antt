@@ -1,20 +1,20 @@
 -- What is marked of a rejection: the rejected event, why it is, and the events that led to it:
 -- those that wrote the entries of its walk, down to the first that is no table; the one by which a
 -- cached entry had to go; and, where there is none, the one after which no moments witness it.
-use Rattle.std.specs.Prelude.{ℕ, if◌then◌else◌, List, [], ◌∷◌, ◌++◌, Option, Some, None, codes}
-use Rattle.std.specs.Prelude.{slice_get}
-use Rattle.std.specs.Prelude.{string_bytes}
+use Rattle.std.specs.Prelude.{ℕ, List, [], ◌∷◌, ◌++◌, Option, Some, None, codes}
+use Rattle.std.specs.Prelude.{slice_get, string_bytes}
+use Rattle.std.specs.List.{flat_map}
 use Rattle.pg_event.specs.declared.event.Event.{Event}
 use Rattle.pg_event.specs.Form.{processor_of}
-use Rattle.pg_event.specs.Wants.{is_table}
 use Rattle.pg_explain.specs.declared.denial.Denial.{Denial}
 use Rattle.pg_explain.specs.declared.entry.WalkEntry.{WalkEntry}
 use Rattle.pg_explain.specs.declared.explainer.Explanation.{Explanation}
-use Rattle.pg_explain.specs.declared.finding.Finding.{Finding}
-use Rattle.pg_explain.specs.declared.finding.Finding.TheVariants as findings
 use Rattle.pg_explain.specs.Denied.{denial_text}
-use Rattle.pg_explain.specs.Findings.{reason_of}
+use Rattle.pg_explain.specs.Findings.{reason_of, dropper}
+use Rattle.pg_explain.specs.Lasts.{taker}
+use Rattle.pg_explain.specs.Line.{processor_at}
 use Rattle.pg_explain.specs.Text.{explanation_text}
+use Rattle.pg_explain.specs.Walk.{down_to_end}
 use Rattle.pg_report.specs.Text.{reason_name}
 use Rattle.pg_search.specs.declared.last.Last.{Last}
 use Rattle.pg_trace.specs.declared.mark.Cause.{Cause}
@@ -66,35 +66,12 @@ source_at events role (Some number) = source_of role number (slice_get events nu
 
 -- those that wrote the entries down to the first that is no table
 abbrev pub writers : List Event → List WalkEntry → List Source
-writers events [] = []
-writers events (x ∷ xs) =
-    source_at events roles.Write x.writer ++ (if is_table x.kind then writers events xs else [])
-
--- the event by which an entry had to go
-abbrev pub dropped_in : Finding → Option ℕ
-dropped_in (findings.Order level moment limit) = None
-dropped_in (findings.Entry level wish kind) = None
-dropped_in (findings.Context first other) = None
-dropped_in (findings.StructureDropped level at) = Some at
-dropped_in (findings.TranslationDropped level at) = Some at
-dropped_in (findings.ForeignPcid read current) = None
-dropped_in (findings.NotAtEvent moment address value kind) = None
-dropped_in (findings.Rights rights access allowed prevention) = None
-dropped_in (findings.Answer expected) = None
-dropped_in (findings.Code expected) = None
-dropped_in (findings.Accessed level address value) = None
-dropped_in (findings.Dirty address value) = None
-dropped_in (findings.Assist misfit) = None
+writers events walk = flat_map (λ x. source_at events roles.Write x.writer) (down_to_end walk)
 
 -- the event after which no moments witness
 abbrev pub last_in : Option Last → Option ℕ
 last_in None = None
 last_in (Some last) = Some last.number
-
--- where there are none
-abbrev pub last_unless : Option (List ℕ) → Option Last → Option ℕ
-last_unless None last = last_in last
-last_unless (Some ws) last = None
 
 -- a number, unless there is another
 abbrev pub unless_at : Option ℕ → Option ℕ → Option ℕ
@@ -108,13 +85,6 @@ sources_of events walk dropped last =
 
 -- ---- marks
 
-abbrev pub processor_some : Option Event → ℕ
-processor_some None = 0
-processor_some (Some e) = processor_of e
-
-abbrev pub processor_at : List Event → ℕ → ℕ
-processor_at events number = processor_some (slice_get events number)
-
 -- of an event that its moments do not witness
 abbrev pub explanation_mark : List Event → Explanation → Marking
 explanation_mark events x = record {
@@ -122,8 +92,7 @@ explanation_mark events x = record {
   p = processor_at events x.number;
   cause = Moments (reason_of x.finding);
   words = explanation_text events x;
-  sources = sources_of events x.walk.items (dropped_in x.finding)
-      (last_unless x.other x.last);
+  sources = sources_of events x.walk.items (dropper x.finding) (taker x.other x.last);
 }
 
 -- of an event that no moments witness

@@ -2,16 +2,14 @@
 
 ghost use Rattle.std.specs.Prelude.{◌≡◌, ◌++◌, IfOk, OnOk};
 ghost use Rattle.pg_trace.specs.Marks.{cause_name, role_name, said, source_at, writers};
-ghost use Rattle.pg_event.specs.Wants.{is_table};
-ghost use Rattle.pg_trace.specs.Marks.{dropped_in, last_in, last_unless, unless_at};
-ghost use Rattle.pg_trace.specs.Marks.{sources_of, processor_at};
+ghost use Rattle.pg_trace.specs.Marks.{last_in, unless_at, sources_of};
 ghost use Rattle.pg_trace.specs.Marks.{explanation_mark, denial_mark};
 
 use pg_check::History;
-use pg_entry::Kind;
-use pg_event::{Event, Moments, Reason, processor_of};
+use pg_event::{Event, Reason, processor_of};
 use pg_explain::{
-    Denial, Explanation, Finding, WalkEntry, denial_text_by, event_at, explanation_text, takers_in,
+    Denial, Explanation, WalkEntry, denial_text_by, down_to_end, event_at, explanation_text,
+    processor_at, taker, takers_in,
 };
 use pg_report::reason_name;
 use pg_search::Last;
@@ -113,47 +111,15 @@ pub(crate) fn push_source(
     }
 }
 
-fn is_table(kind: Kind) -> bool
-    ensures { result ≡ is_table kind }
-{
-    match kind {
-        Kind::Table { .. } => true,
-        Kind::Leaf { .. } | Kind::Absent | Kind::Reserved => false,
-    }
-}
-
 /// The events that wrote the entries of a walk, down to the first that is no table.
 fn writers(alloc: Global, events: &[Event], walk: &[WalkEntry]) -> Result<Vec<Source>, AllocError>
     ensures { IfOk result (λ found. found.items ≡ writers events.now walk.now) }
 {
     let mut sources = Vec::new(alloc);
-    for entry in walk {
+    for entry in down_to_end(walk) {
         push_source(&mut sources, events, Role::Write, entry.writer)?;
-        if !is_table(entry.kind) {
-            return Ok(sources);
-        }
     }
     Ok(sources)
-}
-
-/// The event by which an entry had to go.
-fn dropped_in(finding: Finding) -> Option<u32>
-    ensures { result ≡ dropped_in finding }
-{
-    match finding {
-        Finding::StructureDropped { at, .. } | Finding::TranslationDropped { at, .. } => Some(at),
-        Finding::Order { .. }
-        | Finding::Entry { .. }
-        | Finding::Context { .. }
-        | Finding::ForeignPcid { .. }
-        | Finding::NotAtEvent { .. }
-        | Finding::Rights { .. }
-        | Finding::Answer { .. }
-        | Finding::Code { .. }
-        | Finding::Accessed { .. }
-        | Finding::Dirty { .. }
-        | Finding::Assist(_) => None,
-    }
 }
 
 /// The event after which no moments witness.
@@ -163,16 +129,6 @@ fn last_in(last: Option<Last>) -> Option<u32>
     match last {
         None => None,
         Some(last) => Some(last.number),
-    }
-}
-
-/// The same, where no other moments do.
-fn last_unless(other: Option<Moments>, last: Option<Last>) -> Option<u32>
-    ensures { result ≡ last_unless other last }
-{
-    match other {
-        None => last_in(last),
-        Some(_) => None,
     }
 }
 
@@ -203,16 +159,6 @@ fn sources_of(
     Ok(sources)
 }
 
-/// The processor of the event with this number, or 0 where there is none.
-fn processor_at(events: &[Event], number: u32) -> u16
-    ensures { result ≡ processor_at events.now number }
-{
-    match event_at(events, number) {
-        Some(event) => processor_of(&event),
-        None => 0,
-    }
-}
-
 /// The mark of an event that its moments do not witness.
 pub(crate) fn explanation_mark(
     alloc: Global,
@@ -238,8 +184,8 @@ pub(crate) fn explanation_mark(
             alloc,
             events,
             &explanation.walk,
-            dropped_in(finding),
-            last_unless(other, last),
+            finding.dropper(),
+            taker(other, last),
         )?,
     })
 }

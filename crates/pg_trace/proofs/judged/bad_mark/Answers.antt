@@ -3,7 +3,7 @@ use Rattle.pg_event.specs.Witness.{first_bad}
 use Rattle.pg_report.specs.declared.report.Report.{Report}
 use Rattle.pg_report.specs.declared.report.Verdict.TheVariants.{Yes, No}
 use Rattle.pg_report.specs.Text.{verdict_of}
-use Rattle.pg_trace.proofs.Bad.{bad_is_within, bad_is_unwitnessed, told_bad, told_good}
+use Rattle.pg_report.proofs.Bad.{bad_is_within, bad_is_unwitnessed, told_bad, told_good}
 use Rattle.pg_trace.proofs.judged.bad_mark.Goals as goal
 
 pub mark_of-requires-clause-within : goal.mark_of-requires-clause-within
