@@ -8,7 +8,7 @@
 --     final: no moments prove this DEED       where none do
 --     last: ..                                then when it would last have been witnessed (`Lasts`)
 --     other moments would: M ..               else the freshest that do
-use Rattle.std.specs.Prelude.{ℕ, Bool, if◌then◌else◌, List, [], ◌∷◌, ◌++◌}
+use Rattle.std.specs.Prelude.{ℕ, Bool, if◌then◌else◌, List, [], ◌++◌}
 use Rattle.std.specs.Prelude.{Option, Some, None, codes, decimal, slice_get}
 use Rattle.std.specs.List.{flat_map}
 use Rattle.pg_entry.specs.declared.AccessKind.{AccessKind}
