@@ -1,7 +1,7 @@
 use std::collections::LinkedList;
 
 /// What one seat knows of one deque. No value of it is made: it stands in proofs alone.
-pub(crate) struct Hand {
+pub(crate) struct DequeView {
     /// Whether no other seat can reach the deque.
     pub alone: bool,
     /// The numbers that were pushed.

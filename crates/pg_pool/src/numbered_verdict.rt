@@ -1,10 +1,10 @@
-//! What is told of segments.
+//! Verdicts with the numbers of their segments.
 
 use pg_check::SegmentVerdict;
 
-/// What is told of the segment with this number.
+/// What is told of the segment with a number.
 #[derive(Clone, Copy)]
-pub(crate) struct Told<V> {
+pub(crate) struct NumberedVerdict<V> {
     pub number: u32,
     pub verdict: V,
 }
