@@ -259,8 +259,8 @@ fn last_of(
 /// The past is asked for the freshest other moments that prove the event and, where there are none,
 /// for when the event would last have been witnessed. Fails only when out of memory.
 ///
-/// Who wrote an entry is looked up among writers, where they are given, and otherwise in a pass over
-/// the events.
+/// Who wrote an entry is looked up among writers, where they are given, and otherwise in a pass
+/// over the events.
 pub fn explain_with(
     alloc: Global,
     history: &History,
