@@ -14,8 +14,7 @@ use pg_explain::{Bad, Explanation, WriterIndex, bads, explain_with, tallies};
 use pg_report::report_of;
 use std::alloc::{AllocError, Global};
 
-/// To look through all events for writers costs about as much as the passes that so many causes
-/// take.
+/// An index of writers costs about as much as the passes over events that so many causes take.
 const MANY: usize = 4;
 
 /// How many bad events there are, and what those with one reason have in common.
@@ -47,7 +46,7 @@ pub(crate) fn cause_of(
     }
 }
 
-/// The writers of a history, where so many events are explained that this costs less than the
+/// The writers of a history, where so many events are explained that an index costs less than the
 /// passes that it saves.
 fn writers_for(
     alloc: Global,
@@ -63,16 +62,21 @@ fn writers_for(
     Ok(Some(writers))
 }
 
-/// The cause of each of bad events, in their order.
-fn each(alloc: Global, history: &History, found: &[Bad]) -> Result<Vec<Explanation>, AllocError>
-    requires { AllByRecursion (IsBad history.now.head history.now.events) found.now }
+/// The cause of each of bad events, in their order, by writers, where they are given.
+fn each(
+    alloc: Global,
+    history: &History,
+    writers: &Option<WriterIndex<'_>>,
+    found: &[Bad],
+) -> Result<Vec<Explanation>, AllocError>
+    requires writers { AreKnown history.now.events writers.now }
+    requires bad { AllByRecursion (IsBad history.now.head history.now.events) found.now }
     ensures { IfOk result (λ xs.
         AreExplanations history.now.head history.now.events found.now xs.items) }
 {
-    let writers = writers_for(alloc, history, found.len())?;
     let mut causes = Vec::new(alloc);
     for bad in found {
-        let cause = cause_of(alloc, history, &writers, bad.number as u64)?;
+        let cause = cause_of(alloc, history, writers, bad.number as u64)?;
         causes.push(cause)?;
     }
     Ok(causes)
@@ -89,7 +93,9 @@ fn causes_of(
     ensures { IfOk result (λ xs.
         AreExplanations history.now.head history.now.events (take most found.now) xs.items) }
 {
-    each(alloc, history, &found[..most.min(found.len())])
+    let count = most.min(found.len());
+    let writers = writers_for(alloc, history, count)?;
+    each(alloc, history, &writers, &found[..count])
 }
 
 /// The report of a record, and a summary of its bad events.

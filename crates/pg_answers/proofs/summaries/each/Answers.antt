@@ -22,13 +22,13 @@ pub cause_of-requires-clause-within : goal.cause_of-requires-clause-within
 cause_of-requires-clause-within c =
     let head : Head = c.args.history.now.head in
     let events : List Event = c.args.history.now.events in
-    bad_within head events _ _ (bad_at head events c.args.found.now c.loop-bad.bad-index _ c.loop-bad-test.true c.requires)
+    bad_within head events _ _ (bad_at head events c.args.found.now c.loop-bad.bad-index _ c.loop-bad-test.true c.requires.bad)
 
 pub cause_of-requires-clause-bad : goal.cause_of-requires-clause-bad
 cause_of-requires-clause-bad c =
     let head : Head = c.args.history.now.head in
     let events : List Event = c.args.history.now.events in
-    bad_fails head events _ _ (bad_at head events c.args.found.now c.loop-bad.bad-index _ c.loop-bad-test.true c.requires)
+    bad_fails head events _ _ (bad_at head events c.args.found.now c.loop-bad.bad-index _ c.loop-bad-test.true c.requires.bad)
 
 pub returns : goal.returns
 returns c =
