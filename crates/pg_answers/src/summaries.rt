@@ -63,7 +63,7 @@ fn writers_for(
 }
 
 /// The cause of each of bad events, in their order, by writers, where they are given.
-fn each(
+fn each_by(
     alloc: Global,
     history: &History,
     writers: &Option<WriterIndex<'_>>,
@@ -82,6 +82,16 @@ fn each(
     Ok(causes)
 }
 
+/// The cause of each of bad events, in their order.
+fn each(alloc: Global, history: &History, found: &[Bad]) -> Result<Vec<Explanation>, AllocError>
+    requires { AllByRecursion (IsBad history.now.head history.now.events) found.now }
+    ensures { IfOk result (λ xs.
+        AreExplanations history.now.head history.now.events found.now xs.items) }
+{
+    let writers = writers_for(alloc, history, found.len())?;
+    each_by(alloc, history, &writers, found)
+}
+
 /// The causes of so many bad events at most.
 fn causes_of(
     alloc: Global,
@@ -93,9 +103,7 @@ fn causes_of(
     ensures { IfOk result (λ xs.
         AreExplanations history.now.head history.now.events (take most found.now) xs.items) }
 {
-    let count = most.min(found.len());
-    let writers = writers_for(alloc, history, count)?;
-    each(alloc, history, &writers, &found[..count])
+    each(alloc, history, &found[..most.min(found.len())])
 }
 
 /// The report of a record, and a summary of its bad events.

@@ -1,6 +1,6 @@
 use Rattle.std.proofs.Common.{take}
 use Rattle.pg_answers.specs.Answers.{AreExplanations}
-use Rattle.pg_answers.proofs.summaries.each.Given as goal
+use Rattle.pg_answers.proofs.summaries.each_by.Given as goal
 
 abbrev pub invariant-loop-bad : goal.invariant-loop-bad
 invariant-loop-bad l =
