@@ -1,7 +1,7 @@
 //! Logs of single processors, and the runs that they make.
 
 use pg_event::Event;
-use pg_spanned::{Log, SpannedRun, merge_logs, read_log};
+use pg_span_run::{Log, SpannedRun, merge_logs, read_log};
 use std::alloc::{AllocError, AllocGlobal, Global};
 use std::cell::Cell;
 use std::test::Fail;

@@ -4,7 +4,7 @@ ghost use Rattle.std.specs.Prelude.{◌≤◌};
 
 use pg_codec::{Watched, pull_all};
 use pg_event::{Event, Malformed, Moments, Outcome, Refusal, Version};
-use pg_spanned::{Peeked, SpannedError, SpannedRefusal, SpannedRun, read_spanned, spell_spanned};
+use pg_span_run::{Peeked, SpannedError, SpannedRefusal, SpannedRun, read_spanned, spell_spanned};
 use std::alloc::Global;
 use std::cell::Cell;
 use std::io::{self, Read};

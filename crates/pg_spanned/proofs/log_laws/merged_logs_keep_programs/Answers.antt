@@ -1,5 +1,0 @@
-use Rattle.pg_spanned.proofs.Kept.{merged_logs_keep_programs}
-use Rattle.pg_spanned.proofs.log_laws.merged_logs_keep_programs.Goals as goal
-
-pub returns : goal.returns
-returns c = merged_logs_keep_programs

@@ -1,5 +1,0 @@
-use Rattle.pg_spanned.proofs.Readings.{reading_of_spelling}
-use Rattle.pg_spanned.proofs.spelling_laws.reading_of_spanned_spelling.Goals as goal
-
-pub returns : goal.returns
-returns c = reading_of_spelling
