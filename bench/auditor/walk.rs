@@ -182,7 +182,7 @@ impl Walk {
     }
 }
 
-/// Walks that were taken lately.
+/// Walks that were taken recently.
 pub struct Walker<'past> {
     past: &'past Past,
     rules: Rules,

@@ -2,7 +2,7 @@
 """Which text is a script, and which line is refused for what, written from docs/SCRIPT.md alone.
 
 `refusal(text)` gives the line and the number of the refusal of these bytes, and None where they are a
-script. Want of memory and too many instructions are left out.
+script. Running out of memory and too many instructions are left out.
 """
 import re
 

@@ -5,9 +5,9 @@
 mod reasons;
 
 use crate::reasons::Reasoned;
+use pg_arguments::arguments;
 use pg_codec::Watched;
-use pg_plan::arguments;
-use pg_span_codec::Peeked;
+use pg_span_run::Peeked;
 use pg_tool::{Brief, Followed, Host, Signals, Teller, pcid_audit_of_arguments};
 use std::cell::Cell;
 use std::fs::{self, File};

@@ -4,7 +4,6 @@ pub mod RefusalRows
 pub mod Upgraded
 pub mod GivenTexts
 pub mod Finding
-pub mod Bad
 pub mod Explained
 pub mod Named
 pub mod Accounted

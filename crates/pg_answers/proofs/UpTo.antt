@@ -13,7 +13,7 @@ use Rattle.pg_check.proofs.Windows.{well_between}
 use Rattle.pg_run_of.specs.Law.{AcceptedEventsRun}
 use Rattle.pg_run_of.specs.Converse.{without_moments}
 use Rattle.pg_certify.specs.Certified.{CanBeCertified, CertifiedEventsRun, DeniedEventsHaveNoRun, IsDenied, HasRunButMoments}
-use Rattle.pg_answers.proofs.Bad.{bad_is_within, parts}
+use Rattle.pg_report.proofs.Bad.{bad_is_within, parts}
 use Rattle.pg_answers.proofs.OneCertificate.{begins, one_event}
 
 -- ---- bad events

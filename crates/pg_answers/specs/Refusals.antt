@@ -7,8 +7,8 @@ use Rattle.pg_report.specs.declared.error.AuditError.TheVariants.{Thread, Checke
 use Rattle.pg_report.specs.Changes.{Change, Fails, Works, Adds, AddsSome, AddsNothing}
 use Rattle.pg_report.specs.Numbers.{rule_number, error_number, error_name}
 use Rattle.pg_answers.specs.Reasons.{words_line}
-use Rattle.pg_plan.specs.declared.words.NoWords.{NoWords}
-use Rattle.pg_plan.specs.declared.words.NoWords.TheVariants as unread
+use Rattle.pg_arguments.specs.declared.words.NoWords.{NoWords}
+use Rattle.pg_arguments.specs.declared.words.NoWords.TheVariants as unread
 
 -- `pcid-audit: refused 3 header field`
 abbrev pub refusal_text : ℕ → List ℕ → List ℕ

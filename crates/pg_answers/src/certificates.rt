@@ -12,13 +12,13 @@ use crate::accounts::read_account;
 use crate::answer::Answer;
 use crate::denials::{denial_by, denial_in};
 use crate::question::Question;
+use pg_arguments::Checkers;
 use pg_certify::{
     CertifyError, StreamingCertifier, certified_events_run, denied_events_have_no_run,
     first_denied_by,
 };
 use pg_check::History;
 use pg_codec::Source;
-use pg_plan::Checkers;
 use pg_report::{AuditError, Report, Verdict, read_record};
 use std::alloc::{AllocError, AllocGlobal, Global};
 use std::sync::Wait;

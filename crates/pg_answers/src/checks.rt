@@ -9,8 +9,8 @@ ghost use Rattle.pg_answers.specs.Found.{IsFound};
 
 use crate::answer::Answer;
 use crate::question::Question;
+use pg_arguments::Checkers;
 use pg_codec::Source;
-use pg_plan::Checkers;
 use pg_pool::OpenGate;
 use pg_report::{AuditError, Crew, Report, judge_record, judge_record_by};
 use std::alloc::AllocGlobal;

@@ -15,10 +15,10 @@ use crate::denials::denial_in;
 use crate::outcomes::outcomes_asked;
 use crate::summaries::cause_of;
 use crate::unnamed::is_unnamed;
+use pg_arguments::Checkers;
 use pg_certify::{certified_events_run, denied_events_have_no_run, first_denied};
 use pg_check::History;
 use pg_outcomes::Allowed;
-use pg_plan::Checkers;
 use pg_report::{AuditError, Verdict, report_of};
 use pg_run_of::accepted_events_run;
 use pg_search::Seen;
@@ -52,7 +52,7 @@ fn caused(alloc: Global, history: History) -> Result<Answer, AllocError>
     match report.verdict {
         Verdict::Yes => Ok(Answer::Report(report)),
         Verdict::No { event, .. } => {
-            let cause = cause_of(alloc, &history, event)?;
+            let cause = cause_of(alloc, &history, &None, event)?;
             let allowed = allowed_in(alloc, &history, event)?;
             Ok(Answer::Cause(report, history, cause, allowed))
         }

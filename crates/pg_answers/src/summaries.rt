@@ -5,13 +5,17 @@ ghost use Rattle.std.specs.List.{AllByRecursion};
 ghost use Rattle.pg_event.specs.Witness.{Witnessed};
 ghost use Rattle.pg_explain.specs.Bads.{IsBad, bads};
 ghost use Rattle.pg_explain.specs.Explained.{IsExplained};
+ghost use Rattle.pg_explain.specs.Writers.{AreKnown};
 ghost use Rattle.pg_answers.specs.Answers.{AreCauses, AreExplanations, IsSummary, IsSummed};
 
 use crate::answer::{Answer, Summary};
 use pg_check::History;
-use pg_explain::{Bad, Explanation, bads, explain, tallies};
+use pg_explain::{Bad, Explanation, WriterIndex, bads, explain_with, tallies};
 use pg_report::report_of;
 use std::alloc::{AllocError, Global};
+
+/// An index of writers costs about as much as the passes over events that so many causes take.
+const MANY: usize = 4;
 
 /// How many bad events there are, and what those with one reason have in common.
 fn summary_of(alloc: Global, found: &[Bad]) -> Result<Summary, AllocError>
@@ -24,20 +28,58 @@ fn summary_of(alloc: Global, found: &[Bad]) -> Result<Summary, AllocError>
     })
 }
 
-/// The cause of an event that is not witnessed.
+/// The cause of an event that is not witnessed, by writers, where they are given.
 pub(crate) fn cause_of(
     alloc: Global,
     history: &History,
+    writers: &Option<WriterIndex<'_>>,
     number: u64,
 ) -> Result<Explanation, AllocError>
     requires within { number < length history.now.events }
+    requires writers { AreKnown history.now.events writers.now }
     requires bad { ¬ Witnessed history.now.head history.now.events number }
     ensures { IfOk result (IsExplained history.now.head history.now.events number) }
 {
-    match explain(alloc, history, number)? {
+    match explain_with(alloc, history, writers, number)? {
         Some(explanation) => Ok(explanation),
         None => unreachable!(),
     }
+}
+
+/// The writers of a history, where so many events are explained that an index costs less than the
+/// passes that it saves.
+fn writers_for(
+    alloc: Global,
+    history: &History,
+    count: usize,
+) -> Result<Option<WriterIndex<'_>>, AllocError>
+    ensures { IfOk result (AreKnown history.now.events) }
+{
+    if count < MANY {
+        return Ok(None);
+    }
+    let writers = WriterIndex::of(alloc, history)?;
+    Ok(Some(writers))
+}
+
+/// The cause of each of bad events, in their order, by writers, where they are given.
+fn each_by(
+    alloc: Global,
+    history: &History,
+    writers: &Option<WriterIndex<'_>>,
+    found: &[Bad],
+) -> Result<Vec<Explanation>, AllocError>
+    requires writers { AreKnown history.now.events writers.now }
+    requires bad { AllByRecursion (IsBad history.now.head history.now.events) found.now }
+    ensures { IfOk result (λ xs.
+        AreExplanations history.now.head history.now.events found.now xs.items) }
+{
+    let mut causes = Vec::new(alloc);
+    for bad in found {
+        let cause = cause_of(alloc, history, writers, bad.number as u64)?;
+        causes.push(cause)?;
+    }
+    Ok(causes)
 }
 
 /// The cause of each of bad events, in their order.
@@ -46,12 +88,8 @@ fn each(alloc: Global, history: &History, found: &[Bad]) -> Result<Vec<Explanati
     ensures { IfOk result (λ xs.
         AreExplanations history.now.head history.now.events found.now xs.items) }
 {
-    let mut causes = Vec::new(alloc);
-    for bad in found {
-        let cause = cause_of(alloc, history, bad.number as u64)?;
-        causes.push(cause)?;
-    }
-    Ok(causes)
+    let writers = writers_for(alloc, history, found.len())?;
+    each_by(alloc, history, &writers, found)
 }
 
 /// The causes of so many bad events at most.

@@ -14,7 +14,7 @@ use crate::summaries::{all_explained, summed};
 use pg_check::History;
 use pg_codec::Source;
 use pg_entry::Rules;
-use pg_plan::Checkers;
+use pg_arguments::Checkers;
 use pg_report::{AuditError, read_record, report_of};
 use std::alloc::AllocGlobal;
 use std::sync::Wait;

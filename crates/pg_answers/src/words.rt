@@ -5,8 +5,8 @@ ghost use Rattle.pg_answers.specs.Refusals.{TellsNoWords};
 
 use crate::refusals::{tell_memory, tell_text};
 use crate::statuses::{MEMORY, USAGE};
+use pg_arguments::NoWords;
 use pg_codec::Sink;
-use pg_plan::NoWords;
 
 /// Tells why there are no words, and gives the exit status.
 pub fn tell_no_words<E: Sink>(errors: &mut E, why: NoWords) -> u8

@@ -3,6 +3,7 @@
 ghost use Rattle.std.specs.Prelude.{◌≡◌, ◌<◌, ◌≤◌, true, length, None};
 ghost use Rattle.std.specs.Prelude.{IfOk, IfSome, IfNone};
 ghost use Rattle.pg_event.specs.Form.{broken_rule, processor_of};
+ghost use Rattle.pg_check.specs.Judgements.{IfWitnessed};
 ghost use Rattle.pg_search.specs.Law.{names_moments, AreWitness};
 ghost use Rattle.pg_certify.specs.Certified.{IsFoundFor, IsUnwitnessed};
 
@@ -13,6 +14,7 @@ use crate::recent_lookups::RecentLookups;
 use crate::walk::{
     Walk, address_by, first_moments, is_global, last_of, moments_fit, tables_up_to, walk_by,
 };
+use pg_check::Judgement;
 use pg_entry::has_bit;
 use pg_event::{Event, Moments, Reason};
 use pg_search::{names_moments, with_moments};
@@ -70,7 +72,7 @@ impl<J: Judging + Drop> Certifier<J> {
     /// The least reason by which these moments do not witness an event, or `None` where they do.
     /// Each event asks it, so that to copy the event with them once more would cost much.
     #[inline(always)]
-    fn judge(&mut self, event: &Event, i: u32, moments: Moments) -> Option<Reason>
+    fn failing_by(&mut self, event: &Event, i: u32, moments: Moments) -> Option<Reason>
         requires { broken_rule self.old.head event.now ≡ None }
         ensures same { self.new ≡ self.old }
         ensures found { IfNone result
@@ -88,42 +90,39 @@ impl<J: Judging + Drop> Certifier<J> {
         ensures found { IfSome result
             (AreWitness self.old.head self.old.events i event.now) }
     {
-        match self.judge(event, i, moments) {
+        match self.failing_by(event, i, moments) {
             None => Some(moments),
             Some(_) => None,
         }
     }
 
-    /// These moments, if they witness an event and that shows quickly: `None` says nothing.
+    /// Judges an event by these moments, if that is quick.
     #[inline(always)]
-    fn judge_quickly(&mut self, event: &Event, i: u32, moments: Moments) -> Option<Option<Reason>>
+    fn judge_quickly(&mut self, event: &Event, i: u32, moments: Moments) -> Judgement
         requires { broken_rule self.old.head event.now ≡ None }
         ensures same { self.new ≡ self.old }
-        ensures found { IfSome result (λ reason. IfNone reason
-            (AreWitness self.old.head self.old.events i event.now moments)) }
+        ensures found { IfWitnessed result
+            (AreWitness self.old.head self.old.events i event.now moments) }
     {
         moments_fit(moments);
         let guessed = with_moments(event, moments);
-        self.judging.failing_quickly(i, &guessed)
+        match self.judging.judge_quickly(i, &guessed) {
+            Judgement::Decided(found) => Judgement::Decided(found),
+            Judgement::Unknown => Judgement::Unknown,
+        }
     }
 
-    /// These moments, if they witness an event, as far as `speed` asks.
+    /// Judges an event by these moments, as far as `speed` asks.
     #[inline(always)]
-    fn judge_at(
-        &mut self,
-        event: &Event,
-        i: u32,
-        moments: Moments,
-        speed: Speed,
-    ) -> Option<Option<Reason>>
+    fn judge_at(&mut self, event: &Event, i: u32, moments: Moments, speed: Speed) -> Judgement
         requires { broken_rule self.old.head event.now ≡ None }
         ensures same { self.new ≡ self.old }
-        ensures found { IfSome result (λ reason. IfNone reason
-            (AreWitness self.old.head self.old.events i event.now moments)) }
+        ensures found { IfWitnessed result
+            (AreWitness self.old.head self.old.events i event.now moments) }
     {
         match speed {
             Speed::Quick => self.judge_quickly(event, i, moments),
-            Speed::Whole => Some(self.judge(event, i, moments)),
+            Speed::Whole => Judgement::Decided(self.failing_by(event, i, moments)),
         }
     }
 
@@ -148,12 +147,13 @@ impl<J: Judging + Drop> Certifier<J> {
         if last_of(&moments) < self.guesses.since(case.p, scope) {
             return None;
         }
-        match self.judge_at(event, case.i, moments, speed)? {
-            None => Some(moments),
-            Some(reason) => {
+        match self.judge_at(event, case.i, moments, speed) {
+            Judgement::Decided(None) => Some(moments),
+            Judgement::Decided(Some(reason)) => {
                 self.guesses.note_failed(key, reason);
                 None
             }
+            Judgement::Unknown => None,
         }
     }
 

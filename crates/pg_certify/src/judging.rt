@@ -6,7 +6,7 @@ ghost use Rattle.pg_search.specs.Law.{names_moments, AreWitness};
 ghost use Rattle.pg_certify.specs.Certified.{IsUnwitnessed};
 
 use crate::mapped::Events;
-use pg_check::{Memo, failing};
+use pg_check::{Judgement, Memo, failing};
 use pg_event::{Event, Moments, Reason};
 use pg_reach::any_moments;
 use pg_search::{KeptRun, Seen};
@@ -17,6 +17,7 @@ use std::marker::Model;
 pub(crate) trait Judging {
     ghost use Rattle.pg_event.specs.Spelling.{Recorded};
     ghost use Rattle.pg_event.specs.Witness.{failing_event};
+    ghost use Rattle.pg_check.specs.Judgements.{IsRight};
 
     // Its settings and its events.
     ghost run: { Self → Recorded };
@@ -35,12 +36,12 @@ pub(crate) trait Judging {
         ensures failing { result
             ≡ failing_event (run self.old).head (run self.old).events i event.now };
 
-    /// What `failing` gives, where that shows quickly: `None` says nothing.
-    fn failing_quickly(&mut self, i: u32, event: &Event) -> Option<Option<Reason>>
+    /// Judges an event with this number, if that is quick.
+    fn judge_quickly(&mut self, i: u32, event: &Event) -> Judgement
         requires { broken_rule (run self.old).head event.now ≡ None }
         ensures same { run self.new ≡ run self.old }
-        ensures failing { IfSome result (λ found. found
-            ≡ failing_event (run self.old).head (run self.old).events i event.now) };
+        ensures right { IsRight result
+            (failing_event (run self.old).head (run self.old).events i event.now) };
 
     /// Moments that witness the event, by a search of all that there are, or `None` where none do.
     fn search(
@@ -105,8 +106,8 @@ impl<'a> Judging for Whole<'a> {
     }
 
     #[inline(always)]
-    fn failing_quickly(&mut self, i: u32, event: &Event) -> Option<Option<Reason>> {
-        Some(failing(&mut self.memo, i, event))
+    fn judge_quickly(&mut self, i: u32, event: &Event) -> Judgement {
+        Judgement::Decided(failing(&mut self.memo, i, event))
     }
 
     fn search(
@@ -144,11 +145,11 @@ impl Judging for KeptRun {
     }
 
     #[inline(always)]
-    fn failing_quickly(&mut self, i: u32, event: &Event) -> Option<Option<Reason>> {
+    fn judge_quickly(&mut self, i: u32, event: &Event) -> Judgement {
         if i as usize == self.len() {
-            self.failing_where_kept(event)
+            self.judge_next_quickly(event)
         } else {
-            None
+            Judgement::Unknown
         }
     }
 

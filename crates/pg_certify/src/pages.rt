@@ -45,10 +45,10 @@ const MANY: usize = 1_024;
 /// An odd number whose multiples by the numbers from 0 on, cut to 64 bits, lie evenly apart.
 const SPREAD: u64 = 0x9e37_79b9_7f4a_7c15;
 
-/// What was found last for each page. That of pages that were asked for lately stands in slots, or
-/// that nothing was found, and goes to the map once another page takes the slot. A look-up in the
-/// map costs as much as all else that is done for most events, and once pages are many it misses
-/// the caches of a processor three times. Where memory is refused, some are not kept.
+/// What was found last for each page. That of pages that were asked for recently stands in slots,
+/// or that nothing was found, and goes to the map once another page takes the slot. A look-up in
+/// the map costs as much as all else that is done for most events, and once pages are many it
+/// misses the caches of a processor three times. Where memory is refused, some are not kept.
 #[derive(Drop)]
 pub(crate) struct Pages {
     alloc: Global,

@@ -71,7 +71,7 @@ impl<'a> Segments for OfHistory<'a> {
     ghost use Rattle.std.specs.Prelude.{◌≡◌};
     ghost use Rattle.pg_certify.specs.Segments.{IsAnswer};
 
-    type Bench = Certifier<Whole<'a>>;
+    type CheckerState = Certifier<Whole<'a>>;
 
     type Verdict = Option<u64>;
 

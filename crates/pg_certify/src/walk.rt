@@ -112,12 +112,11 @@ pub(crate) fn walk_by(
     }
 }
 
-/// Whether a walk of a processor makes a global translation, if it makes one: the entry read last
-/// has bit 8 set, and CR4.PGE is 1 then (Intel SDM, vol. 3, 4.10.2.4).
+/// Whether a walk of a processor makes a global translation, if it makes one.
 pub(crate) fn is_global(seen: &Seen<'_>, p: u16, walk: &Walk) -> bool
     requires { p < length seen.now.head.processors }
 {
-    has_bit(walk.last.0, 8) && seen.control_at(p, last_of(&walk.moments)).pge
+    seen.is_global(p, has_bit(walk.last.0, 8), last_of(&walk.moments))
 }
 
 /// The physical address that a walk gives for a linear one, if it comes to a page.

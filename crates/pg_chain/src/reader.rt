@@ -324,16 +324,15 @@ impl<'a> Reader<'a> {
         }
     }
 
-    /// The first drop of a space from a moment on, where a place has it: `Some(None)` where there
-    /// is none.
+    /// The drop of a space that a place has, if it is also the first from this moment on.
     #[inline(always)]
-    fn known_drop(&self, place: usize, space: Space, from: u32) -> Option<Option<u32>>
+    fn known_drop(&self, place: usize, space: Space, from: u32) -> Option<SpaceDrop>
         ensures { IfSome result
-            (λ first. IsSpaceDrop self.now.drops space from (2 ^ 32 - 1) first) }
+            (λ known. IsSpaceDrop self.now.drops space from (2 ^ 32 - 1) known.first) }
     {
         match self.space_drops.get(place)? {
             Some(known) => if is_same(known.space, space) && holds_from(known, from) {
-                Some(known.first)
+                Some(*known)
             } else {
                 None
             },
@@ -358,7 +357,7 @@ impl<'a> Reader<'a> {
     {
         let place = place_among(self.space_drops.len(), number_of(space));
         match self.known_drop(place, space, from) {
-            Some(first) => first,
+            Some(known) => known.first,
             None => {
                 let window = Window { from, to: u32::MAX };
                 let drops = &self.past.drops;

@@ -3,7 +3,7 @@
 ghost use Rattle.std.specs.Prelude.{◌≡◌};
 
 use crate::place::Place;
-use crate::places::{Kept, page_of, place_of};
+use crate::places::{WalkCache, page_of, place_of};
 use pg_chain::Past;
 use pg_event::{Event, MemoryChange, Moments, Request, processor_of};
 
@@ -62,7 +62,7 @@ fn read_for(past: &Past, slots: &[Place], events: &[Event]) -> u64 {
 /// Reads what the next events will ask for. Where slots are many, most are in no cache near the
 /// processor that judges: one event would wait for its slot, and many wait together.
 #[inline(never)]
-pub(crate) fn look_ahead(past: &Past, kept: &mut Kept, events: &[Event])
+pub(crate) fn look_ahead(past: &Past, kept: &mut WalkCache, events: &[Event])
     ensures slots { kept.new.slots ≡ kept.old.slots }
     ensures stems { kept.new.stems ≡ kept.old.stems }
 {

@@ -15,7 +15,7 @@ ghost use Rattle.pg_check.specs.Judging.{HasNoted, MayNote};
 use crate::ahead::{AHEAD, look_ahead};
 use crate::by_past::first_bad_of;
 use crate::memo::Memo;
-use crate::places::Kept;
+use crate::places::WalkCache;
 use crate::tip::failing_next;
 use pg_chain::Past;
 use pg_event::{Event, Header, Reason};
@@ -29,7 +29,7 @@ use std::marker::Model;
 pub struct Judge {
     past: Past,
     count: u64,
-    kept: Kept,
+    kept: WalkCache,
 }
 
 impl Model for Judge {
@@ -54,7 +54,7 @@ impl Judge {
         Ok(Judge {
             past: Past::new(alloc, header)?,
             count: 0,
-            kept: Kept::new(alloc),
+            kept: WalkCache::new(alloc),
         })
     }
 
@@ -198,7 +198,7 @@ impl Judge {
             HasNoted self.new head before }
     {
         self.past.forget_from(count);
-        self.kept = Kept::new(self.past.alloc);
+        self.kept = WalkCache::new(self.past.alloc);
         self.count = count as u64;
     }
 }

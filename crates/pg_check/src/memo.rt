@@ -15,7 +15,7 @@ ghost use Rattle.pg_check.specs.Remembered.{HasWalk, HaveWalks, IsWithin, frame_
 
 use crate::lasting::{Asking, Lasting, asked_up_to, is_asked, lasting_walk};
 use crate::place::Place;
-use crate::places::{Kept, first_slots, most_slots, page_of, place_of};
+use crate::places::{WalkCache, first_slots, most_slots, page_of, place_of};
 use crate::walk::is_in_order;
 use pg_chain::{Chain, EntryRead, Past, Reader, chain_by, kind_at};
 use pg_entry::{Kind, Level, Rights, page_offset};
@@ -143,7 +143,7 @@ pub(crate) fn is_within(slot: &Slot, limit: u32) -> bool
 #[derive(Drop)]
 pub struct Memo<'a> {
     reader: Reader<'a>,
-    kept: Kept,
+    kept: WalkCache,
     /// What the slots say rests on the first so many events.
     limit: u32,
     /// So many slots there are at most.
@@ -233,7 +233,7 @@ impl<'a> Memo<'a> {
         let most = walks.min(MOST_SLOTS);
         Memo {
             reader: Reader::new(past, walks),
-            kept: Kept::with_slots(past.alloc, first_slots(past, most)),
+            kept: WalkCache::with_slots(past.alloc, first_slots(past, most)),
             limit: u32::MAX,
             most,
         }
@@ -241,7 +241,7 @@ impl<'a> Memo<'a> {
 
     /// The walks that slots have, at the event that comes next, whose number this is: nothing that
     /// is looked up is kept beside them, since it would not outlast the event.
-    pub(crate) fn at_tip(past: &'a Past, kept: Kept, number: u32) -> Memo<'a>
+    pub(crate) fn at_tip(past: &'a Past, kept: WalkCache, number: u32) -> Memo<'a>
         requires { HaveWalks past.now number kept.slots.items }
         ensures { result ≡ past.now }
     {
@@ -262,7 +262,7 @@ impl<'a> Memo<'a> {
     }
 
     /// The slots, where they rest on the first so many events.
-    pub(crate) fn into_slots(self, limit: u32) -> Kept
+    pub(crate) fn into_slots(self, limit: u32) -> WalkCache
         ensures { HaveWalks self.entry limit result.slots.items }
     {
         let alloc = self.past().alloc;
@@ -272,7 +272,11 @@ impl<'a> Memo<'a> {
             limit: own,
             most: _,
         } = self;
-        if own <= limit { kept } else { Kept::new(alloc) }
+        if own <= limit {
+            kept
+        } else {
+            WalkCache::new(alloc)
+        }
     }
 
     /// What the run did.

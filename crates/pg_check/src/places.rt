@@ -14,7 +14,7 @@ use std::alloc::Global;
 
 /// Slots that outlive the memo that filled them, and upper parts of walks.
 #[derive(Drop)]
-pub struct Kept {
+pub struct WalkCache {
     pub slots: Vec<Place>,
     /// How many walks were made for them.
     pub made: usize,
@@ -26,13 +26,13 @@ pub struct Kept {
     pub seen: u64,
 }
 
-impl Kept {
+impl WalkCache {
     /// No slot.
-    pub fn new(alloc: Global) -> Kept
+    pub fn new(alloc: Global) -> WalkCache
         ensures slots { result.slots.items ≡ [] }
         ensures stems { result.stems.items ≡ [] }
     {
-        Kept {
+        WalkCache {
             slots: Vec::new(alloc),
             made: 0,
             stems: Vec::new(alloc),
@@ -42,10 +42,10 @@ impl Kept {
     }
 
     /// So many slots with no walk. Where memory is refused there are none.
-    pub(crate) fn with_slots(alloc: Global, count: usize) -> Kept
+    pub(crate) fn with_slots(alloc: Global, count: usize) -> WalkCache
         ensures { (past : Past) (limit : ℕ) → HaveWalks past limit result.slots.items }
     {
-        Kept {
+        WalkCache {
             slots: empty_slots(alloc, count),
             made: 0,
             stems: Vec::new(alloc),

@@ -17,6 +17,7 @@ ghost use Rattle.pg_event.specs.Witness.{translation_survives};
 ghost use Rattle.pg_chain.specs.declared.past.Past.{Past};
 ghost use Rattle.pg_chain.specs.Standing.{InEachRun, IsNext, processor_count};
 ghost use Rattle.pg_chain.specs.Walked.{chain_of};
+ghost use Rattle.pg_check.specs.Judgements.{IsRight};
 ghost use Rattle.pg_check.specs.Lasting.{IsLasting, IsWalk};
 ghost use Rattle.pg_check.specs.Remembered.{HasWalk, HaveWalks, IsLeaf, IsWithin, lasting_to};
 ghost use Rattle.pg_check.specs.Remembered.{page_bits, page_start};
@@ -24,9 +25,10 @@ ghost use Rattle.pg_check.specs.Stems.{HaveStems};
 
 use crate::access::failing_leaf_chain;
 use crate::by_past::failing;
+use crate::judgement::Judgement;
 use crate::lasting::Lasting;
 use crate::memo::{Memo, Slot, frame_in, slot_at, slot_of, walk_in};
-use crate::places::{Kept, most_slots, page_of, place_of};
+use crate::places::{WalkCache, most_slots, page_of, place_of};
 use crate::stems::{Region, Stem, split_last, stem_for};
 use pg_chain::{Chain, EntryRead, Past, chain_further, kind_at};
 use pg_entry::{Cfg, Kind};
@@ -53,7 +55,7 @@ fn outlasts(past: &Past, slot: &Slot) -> bool
 
 /// The slot of an access to a page that the first of two places has, or else the other.
 #[inline(always)]
-fn kept_slot(kept: &Kept, first: usize, p: u16, page: u64, moments: &Moments) -> Option<Slot>
+fn kept_slot(kept: &WalkCache, first: usize, p: u16, page: u64, moments: &Moments) -> Option<Slot>
     ensures names { IfSome result
         (λ s. (s.p ≡ p) × (s.page ≡ page) × (s.moments ≡ moments.now)) }
     ensures walk { (past : Past) (limit : ℕ) → HaveWalks past limit kept.now.slots.items →
@@ -71,7 +73,7 @@ fn kept_slot(kept: &Kept, first: usize, p: u16, page: u64, moments: &Moments) ->
 #[inline(always)]
 fn standing_slot(
     past: &Past,
-    kept: &Kept,
+    kept: &WalkCache,
     current: u16,
     claim: &Claim,
     moments: &Moments,
@@ -113,30 +115,25 @@ fn lasting_to(number: u32, slot: &Slot) -> Lasting
     }
 }
 
-/// What is known of the access that comes next by a walk that was kept and stands: the least reason
-/// that fails, if there is one. Only an access that asks for a leaf has a walk that is kept.
+/// Judges the access that comes next by a walk that was kept, if one stands. Only an access that
+/// asks for a leaf has a walk that is kept.
 #[inline(always)]
-fn failing_standing(
-    past: &Past,
-    kept: &Kept,
-    claim: &Claim,
-    moments: &Moments,
-) -> Option<Option<Reason>>
+fn judge_by_kept_walk(past: &Past, kept: &WalkCache, claim: &Claim, moments: &Moments) -> Judgement
     requires next { IsNext past.now claim.now.number }
     requires processor { claim.now.p < processor_count past.now }
     requires walks { HaveWalks past.now claim.now.number kept.now.slots.items }
     requires leaf { want_of claim.now.outcome ≡ Leaf }
-    ensures { InEachRun past.now (λ head events. IfSome result
-        (λ found. found ≡ failing_access head events claim.now moments.now)) }
+    ensures { InEachRun past.now (λ head events.
+        IsRight result (failing_access head events claim.now moments.now)) }
 {
     let current = past.latest_control(claim.p).pcid;
     match standing_slot(past, kept, current, claim, moments) {
         Some(slot) => {
             let walk = lasting_to(claim.number, &slot);
             let frame = frame_in(&slot);
-            Some(failing_leaf_chain(past, current, claim, walk, frame, slot.shift))
+            Judgement::Decided(failing_leaf_chain(past, current, claim, walk, frame, slot.shift))
         }
-        None => None,
+        None => Judgement::Unknown,
     }
 }
 
@@ -154,7 +151,7 @@ fn is_leaf(want: Want) -> bool
 /// The least reason that fails for the event that comes next, by what the past says; a walk that is
 /// made for it is kept.
 #[inline(never)]
-fn failing_by_past(past: &Past, kept: &mut Kept, number: u32, event: &Event) -> Option<Reason>
+fn failing_by_memo(past: &Past, kept: &mut WalkCache, number: u32, event: &Event) -> Option<Reason>
     requires processor { processor_of event.now < processor_count past.now }
     requires walks { HaveWalks past.now number kept.old.slots.items }
     ensures walks { HaveWalks past.now number kept.new.slots.items }
@@ -162,7 +159,7 @@ fn failing_by_past(past: &Past, kept: &mut Kept, number: u32, event: &Event) -> 
     ensures failing { InEachRun past.now (λ head events.
         result ≡ failing_event head events number event.now) }
 {
-    let own = Kept {
+    let own = WalkCache {
         slots: mem::replace(&mut kept.slots, Vec::new(past.alloc)),
         made: kept.made,
         stems: Vec::new(past.alloc),
@@ -172,7 +169,7 @@ fn failing_by_past(past: &Past, kept: &mut Kept, number: u32, event: &Event) -> 
     let mut memo = Memo::at_tip(past, own, number);
     let found = failing(&mut memo, number, event);
     kept.passed = kept.passed.plus(memo.passed());
-    let Kept { slots, made, .. } = memo.into_slots(number);
+    let WalkCache { slots, made, .. } = memo.into_slots(number);
     kept.slots = slots;
     kept.made = made;
     found
@@ -272,17 +269,17 @@ fn chain_at_event(
     }
 }
 
-/// What is known of the access that comes next by its walk, which is read last at the event and is
-/// kept: the least reason that fails, if there is one. None says nothing. `current` is the PCID.
+/// Judges the access that comes next by its walk, which is read last at the event, and keeps the
+/// walk, if it ends at a leaf. `current` is the PCID.
 #[inline(always)]
-fn failing_by_chain(
+fn judge_by_chain(
     past: &Past,
-    kept: &mut Kept,
+    kept: &mut WalkCache,
     current: u16,
     claim: &Claim,
     moments: &Moments,
     chain: Chain,
-) -> Option<Option<Reason>>
+) -> Judgement
     requires next { IsNext past.now claim.now.number }
     requires processor { claim.now.p < processor_count past.now }
     requires current { InEachRun past.now (λ head events.
@@ -296,30 +293,31 @@ fn failing_by_chain(
         chain_of head events claim.now.p page moments.now Leaf ≡ Ok chain) }
     ensures walks { HaveWalks past.now claim.now.number kept.new.slots.items }
     ensures stems { kept.new.stems ≡ kept.old.stems }
-    ensures failing { InEachRun past.now (λ head events. IfSome result (λ found.
-        found ≡ failing_access head events claim.now moments.now)) }
+    ensures right { InEachRun past.now (λ head events.
+        IsRight result (failing_access head events claim.now moments.now)) }
 {
     let Claim { number, p, la, .. } = *claim;
-    let leaf = leaf_at(past.cfg(), chain.end)?;
+    let Some(leaf) = leaf_at(past.cfg(), chain.end) else {
+        return Judgement::Unknown;
+    };
     let page = page_of(la, moments.len());
     let walk = lasting_now(past, number, p, page, chain, leaf);
     let slot = slot_of(p, page, moments, walk, leaf.shift);
     keep_walk(past, kept, current, number, slot);
     let LeafPage { frame, shift, .. } = leaf;
-    Some(failing_leaf_chain(past, current, claim, walk, frame, shift))
+    Judgement::Decided(failing_leaf_chain(past, current, claim, walk, frame, shift))
 }
 
-/// What is known of the access that comes next by a walk that is made and kept: the least reason
-/// that fails, if there is one. `at_once` is whether the walk is tried as one that is read at the
-/// event as a whole. None says nothing.
+/// Judges the access that comes next by a walk that is made from its upper part, and kept.
+/// `at_once` is whether the walk is tried as one that is read at the event as a whole.
 #[inline(always)]
-fn failing_anew(
+fn judge_by_stem(
     past: &Past,
-    kept: &mut Kept,
+    kept: &mut WalkCache,
     claim: &Claim,
     moments: &Moments,
     at_once: bool,
-) -> Option<Option<Reason>>
+) -> Judgement
     requires next { IsNext past.now claim.now.number }
     requires processor { claim.now.p < processor_count past.now }
     requires walks { HaveWalks past.now claim.now.number kept.old.slots.items }
@@ -327,23 +325,25 @@ fn failing_anew(
     requires leaf { want_of claim.now.outcome ≡ Leaf }
     ensures walks { HaveWalks past.now claim.now.number kept.new.slots.items }
     ensures stems { HaveStems past.now claim.now.number kept.new.stems.items }
-    ensures failing { InEachRun past.now (λ head events. IfSome result (λ found.
-        found ≡ failing_access head events claim.now moments.now)) }
+    ensures right { InEachRun past.now (λ head events.
+        IsRight result (failing_access head events claim.now moments.now)) }
 {
     let current = past.latest_control(claim.p).pcid;
-    let chain = chain_at_event(past, &mut kept.stems, current, claim, moments, at_once)?;
-    failing_by_chain(past, kept, current, claim, moments, chain)
+    match chain_at_event(past, &mut kept.stems, current, claim, moments, at_once) {
+        Some(chain) => judge_by_chain(past, kept, current, claim, moments, chain),
+        None => Judgement::Unknown,
+    }
 }
 
-/// The same by a walk whose entries are all read at the event. It stands by itself, so that the
-/// others, which are more, have a function of their own.
+/// Judges the access that comes next by a walk whose entries are all read at the event. This is a
+/// function of its own, so that the code for all others, which are more, stays small.
 #[inline(never)]
-fn failing_at_once(
+fn judge_by_stem_at_once(
     past: &Past,
-    kept: &mut Kept,
+    kept: &mut WalkCache,
     claim: &Claim,
     moments: &Moments,
-) -> Option<Option<Reason>>
+) -> Judgement
     requires next { IsNext past.now claim.now.number }
     requires processor { claim.now.p < processor_count past.now }
     requires walks { HaveWalks past.now claim.now.number kept.old.slots.items }
@@ -351,10 +351,10 @@ fn failing_at_once(
     requires leaf { want_of claim.now.outcome ≡ Leaf }
     ensures walks { HaveWalks past.now claim.now.number kept.new.slots.items }
     ensures stems { HaveStems past.now claim.now.number kept.new.stems.items }
-    ensures failing { InEachRun past.now (λ head events. IfSome result (λ found.
-        found ≡ failing_access head events claim.now moments.now)) }
+    ensures right { InEachRun past.now (λ head events.
+        IsRight result (failing_access head events claim.now moments.now)) }
 {
-    failing_anew(past, kept, claim, moments, true)
+    judge_by_stem(past, kept, claim, moments, true)
 }
 
 /// Whether a walk is one of four levels that begins at the event with this number, so that it is
@@ -365,15 +365,14 @@ fn is_at_once(moments: &Moments, number: u32) -> bool {
     all.len() == 4 && all[0] == number
 }
 
-/// What is known of the access that comes next by a walk that is made and kept, whatever its
-/// moments: the least reason that fails, if there is one. None says nothing.
+/// Judges the access that comes next by a walk that is made and kept, whatever its moments.
 #[inline(always)]
-fn failing_by_walk(
+fn judge_by_new_walk(
     past: &Past,
-    kept: &mut Kept,
+    kept: &mut WalkCache,
     claim: &Claim,
     moments: &Moments,
-) -> Option<Option<Reason>>
+) -> Judgement
     requires next { IsNext past.now claim.now.number }
     requires processor { claim.now.p < processor_count past.now }
     requires walks { HaveWalks past.now claim.now.number kept.old.slots.items }
@@ -381,19 +380,19 @@ fn failing_by_walk(
     requires leaf { want_of claim.now.outcome ≡ Leaf }
     ensures walks { HaveWalks past.now claim.now.number kept.new.slots.items }
     ensures stems { HaveStems past.now claim.now.number kept.new.stems.items }
-    ensures failing { InEachRun past.now (λ head events. IfSome result (λ found.
-        found ≡ failing_access head events claim.now moments.now)) }
+    ensures right { InEachRun past.now (λ head events.
+        IsRight result (failing_access head events claim.now moments.now)) }
 {
     if is_at_once(moments, claim.number) {
-        failing_at_once(past, kept, claim, moments)
+        judge_by_stem_at_once(past, kept, claim, moments)
     } else {
-        failing_anew(past, kept, claim, moments, false)
+        judge_by_stem(past, kept, claim, moments, false)
     }
 }
 
 /// Keeps a walk that was made at the event that comes next.
 #[inline(always)]
-fn keep_walk(past: &Past, kept: &mut Kept, current: u16, number: u32, slot: Slot)
+fn keep_walk(past: &Past, kept: &mut WalkCache, current: u16, number: u32, slot: Slot)
     requires walks { HaveWalks past.now number kept.old.slots.items }
     requires slot { HasWalk past.now number (Some slot) }
     ensures walks { HaveWalks past.now number kept.new.slots.items }
@@ -420,7 +419,7 @@ fn is_worth_lists(passed: u64, unlisted: u64) -> bool {
 }
 
 /// Makes those lists of what was dropped that are worth it.
-fn make_lists(past: &mut Past, kept: &mut Kept)
+fn make_lists(past: &mut Past, kept: &mut WalkCache)
     ensures past { past.new ≡ past.old }
     ensures slots { kept.new.slots ≡ kept.old.slots }
     ensures stems { kept.new.stems ≡ kept.old.stems }
@@ -443,7 +442,12 @@ fn make_lists(past: &mut Past, kept: &mut Kept)
 /// The least reason that fails for the event that comes next, by what the past says. Lists of what
 /// was dropped are made once look-ups passed over much of the log.
 #[inline(never)]
-fn failing_slow(past: &mut Past, kept: &mut Kept, number: u32, event: &Event) -> Option<Reason>
+fn failing_by_past(
+    past: &mut Past,
+    kept: &mut WalkCache,
+    number: u32,
+    event: &Event,
+) -> Option<Reason>
     requires processor { processor_of event.now < processor_count past.old }
     requires walks { HaveWalks past.old number kept.old.slots.items }
     requires stems { HaveStems past.old number kept.old.stems.items }
@@ -453,18 +457,18 @@ fn failing_slow(past: &mut Past, kept: &mut Kept, number: u32, event: &Event) ->
     ensures failing { InEachRun past.old (λ head events.
         result ≡ failing_event head events number event.now) }
 {
-    let found = failing_by_past(past, kept, number, event);
+    let found = failing_by_memo(past, kept, number, event);
     make_lists(past, kept);
     found
 }
 
-/// The least reason that fails for the event that comes next, an access to a page, where no walk
-/// that was kept tells it: by a walk that is made from the upper part of others, or else by what
-/// the past says.
+/// The least reason that fails for the event that comes next, an access to a page of which no kept
+/// walk stands: by a walk that is made from the upper part of others, or else by what the past
+/// says.
 #[inline(never)]
-fn failing_made(
+fn failing_without_kept_walk(
     past: &mut Past,
-    kept: &mut Kept,
+    kept: &mut WalkCache,
     claim: &Claim,
     moments: &Moments,
     event: &Event,
@@ -484,30 +488,24 @@ fn failing_made(
     ensures failing { InEachRun past.old (λ head events.
         result ≡ failing_event head events claim.now.number event.now) }
 {
-    match failing_by_walk(past, kept, claim, moments) {
-        Some(found) => found,
-        None => failing_slow(past, kept, claim.number, event),
+    match judge_by_new_walk(past, kept, claim, moments) {
+        Judgement::Decided(found) => found,
+        Judgement::Unknown => failing_by_past(past, kept, claim.number, event),
     }
 }
 
-/// What is known of the event that comes next, with this number, by a walk that was kept and
-/// stands: the least reason that fails, if there is one. None says nothing.
+/// Judges the event that comes next, with this number, by a walk that was kept, if one stands.
 #[inline(always)]
-pub fn failing_where_kept(
-    past: &Past,
-    kept: &Kept,
-    number: u32,
-    event: &Event,
-) -> Option<Option<Reason>>
+pub fn judge_next_quickly(past: &Past, kept: &WalkCache, number: u32, event: &Event) -> Judgement
     requires next { IsNext past.now number }
     requires processor { processor_of event.now < processor_count past.now }
     requires walks { HaveWalks past.now number kept.now.slots.items }
-    ensures { InEachRun past.now (λ head events. IfSome result
-        (λ found. found ≡ failing_event head events number event.now)) }
+    ensures { InEachRun past.now (λ head events.
+        IsRight result (failing_event head events number event.now)) }
 {
     let p = processor_of(event);
     match event.request() {
-        Request::Nothing | Request::Update { .. } => None,
+        Request::Nothing | Request::Update { .. } => Judgement::Unknown,
         Request::Access {
             kind,
             la,
@@ -515,7 +513,7 @@ pub fn failing_where_kept(
             moments,
         } => {
             if !is_leaf(want_of(outcome)) {
-                return None;
+                return Judgement::Unknown;
             }
             let claim = Claim {
                 number,
@@ -524,9 +522,9 @@ pub fn failing_where_kept(
                 la,
                 outcome,
             };
-            match failing_standing(past, kept, &claim, &moments) {
-                Some(found) => Some(found),
-                None => None,
+            match judge_by_kept_walk(past, kept, &claim, &moments) {
+                Judgement::Decided(found) => Judgement::Decided(found),
+                Judgement::Unknown => Judgement::Unknown,
             }
         }
     }
@@ -535,7 +533,12 @@ pub fn failing_where_kept(
 /// The least reason that fails for the event that comes next, with this number, where `kept` are
 /// walks of the events before it. What is kept then is right still.
 #[inline(always)]
-pub fn failing_next(past: &mut Past, kept: &mut Kept, number: u32, event: &Event) -> Option<Reason>
+pub fn failing_next(
+    past: &mut Past,
+    kept: &mut WalkCache,
+    number: u32,
+    event: &Event,
+) -> Option<Reason>
     requires next { IsNext past.old number }
     requires processor { processor_of event.now < processor_count past.old }
     requires walks { HaveWalks past.old number kept.old.slots.items }
@@ -549,7 +552,7 @@ pub fn failing_next(past: &mut Past, kept: &mut Kept, number: u32, event: &Event
     let p = processor_of(event);
     match event.request() {
         Request::Nothing => None,
-        Request::Update { .. } => failing_slow(past, kept, number, event),
+        Request::Update { .. } => failing_by_past(past, kept, number, event),
         Request::Access {
             kind,
             la,
@@ -557,7 +560,7 @@ pub fn failing_next(past: &mut Past, kept: &mut Kept, number: u32, event: &Event
             moments,
         } => {
             if !is_leaf(want_of(outcome)) {
-                return failing_slow(past, kept, number, event);
+                return failing_by_past(past, kept, number, event);
             }
             let claim = Claim {
                 number,
@@ -566,9 +569,11 @@ pub fn failing_next(past: &mut Past, kept: &mut Kept, number: u32, event: &Event
                 la,
                 outcome,
             };
-            match failing_standing(past, kept, &claim, &moments) {
-                Some(found) => found,
-                None => failing_made(past, kept, &claim, &moments, event),
+            match judge_by_kept_walk(past, kept, &claim, &moments) {
+                Judgement::Decided(found) => found,
+                Judgement::Unknown => {
+                    failing_without_kept_walk(past, kept, &claim, &moments, event)
+                }
             }
         }
     }

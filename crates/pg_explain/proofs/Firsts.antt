@@ -1,6 +1,6 @@
 -- The first drop of an entry, event by event.
-use Rattle.std.proofs.Common.{◌≡◌, ℕ, zero, suc, ◌+◌, ◌-◌, ◌<◌, ◌≤◌, Bool, true, false, ◌||◌, cond, not, List, Option, Some, None, refl, sym, ap, subst, ◌∙◌, arith, inl, inr}
-use Rattle.std.proofs.lemmas.Bool.{cases_Bool}
+use Rattle.std.proofs.Common.{◌≡◌, ℕ, zero, suc, ◌+◌, ◌-◌, ◌^◌, ◌<◌, ◌≤◌, Bool, true, false, ◌||◌, cond, not, List, Option, Some, None, refl, sym, ap, subst, ◌∙◌, arith, inl, inr}
+use Rattle.std.proofs.lemmas.Bool.{cases_Bool, cases_lt}
 use Rattle.pg_event.specs.declared.event.Event.{Event}
 use Rattle.pg_event.specs.Heads.{Head}
 use Rattle.pg_event.specs.Witness.{any_from, survives}
@@ -63,3 +63,62 @@ first_drop-first head events p key from to found e =
     subst (IsFirstDrop gone from to) (sym e)
     (IsFirstDrop-same (windows test) gone from to (first_drop head events p key from to) (λ a b. sym (not-not (windows test a b)))
     (first_in test (to - from) from to refl))
+
+-- ---- where no number passes up to some one
+
+none_after : (a b : Bool) → (a || b) ≡ false → b ≡ false
+none_after true b h = absurd (cc)
+none_after false b h = h
+
+not_here : (a b : Bool) → (a || b) ≡ false → a ≡ false
+not_here true b h = absurd (cc)
+not_here false b h = refl
+
+-- nothing is found behind the window
+found_none : (test : ℕ → Bool) (f to : ℕ) → to ≤ f → first_from test f (to - f) ≡ None
+found_none test f to h =
+    let none : to - f ≡ 0 = omega arith in
+    ap (first_from test f) none
+
+-- the first number is that of the numbers behind those that do not pass
+pub first_from-skip : (test : ℕ → Bool) (n f to : ℕ) → any_from test f n ≡ false → first_from test (f + n) (to - (f + n)) ≡ first_from test f (to - f)
+first_from-skip test zero f to h =
+    let same : f + 0 ≡ f = omega arith in
+    ap (λ k. first_from test k (to - k)) same
+first_from-skip test (suc n) f to h =
+    let here : f + suc n ≡ f + 1 + n = omega arith in
+    elim (cases_lt f to) [
+      | inl lt ↦
+          ap (λ k. first_from test k (to - k)) here
+          ∙ first_from-skip test n (f + 1) to (none_after (test f) (any_from test (f + 1) n) h)
+          ∙ sym (first_from-next test f to lt (not_here (test f) (any_from test (f + 1) n) h))
+      | inr le ↦
+          found_none test (f + suc n) to (omega arith) ∙ sym (found_none test f to le)
+    ]
+
+not_false : (b : Bool) → not b ≡ false → b ≡ true
+not_false true h = refl
+not_false false h = absurd (cc)
+
+not_true : (b : Bool) → not b ≡ true → b ≡ false
+not_true true h = absurd (cc)
+not_true false h = refl
+
+-- what survives up to a moment is first dropped behind it
+pub first_drop-after : (head : Head) (events : List Event) (p : ℕ) (key : CacheKey) (from to start : ℕ) → from ≤ start → survives head events p (must_drop head.cfg.rules key) from start ≡ true →
+    first_from (is_dropped_at head events p key) start (to - start) ≡ first_drop head events p key from to
+first_drop-after head events p key from to start le h =
+    let test : ℕ → Bool = is_dropped_at head events p key in
+    let end : from + (start - from) ≡ start = omega arith in
+    ap (λ k. first_from test k (to - k)) (sym end)
+    ∙ first_from-skip test (start - from) from to (not_true (any_from test from (start - from)) h)
+
+-- an entry survives up to its first drop
+abbrev pub survives_first : (ℕ → ℕ → Bool) → ℕ → Option ℕ → Type 0
+survives_first lasts from found = IsFirstDrop (λ a b. not (lasts a b)) from (2 ^ 32 - 1) found
+
+pub survives-some : (lasts : ℕ → ℕ → Bool) (from m : ℕ) → survives_first lasts from (Some m) → (from ≤ m) × (lasts from m ≡ true)
+survives-some lasts from m first = (first.0, not_false (lasts from m) first.2)
+
+pub survives-none : (lasts : ℕ → ℕ → Bool) (from : ℕ) → survives_first lasts from None → lasts from (2 ^ 32 - 1) ≡ true
+survives-none lasts from first = not_false (lasts from (2 ^ 32 - 1)) first

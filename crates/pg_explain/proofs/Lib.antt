@@ -7,3 +7,4 @@ pub mod Filters
 pub mod Judged
 pub mod Counts
 mod Denials
+mod Noted

@@ -10,6 +10,7 @@
 use Rattle.std.specs.Prelude.{◌≡◌, ℕ, ◌≤◌, ◌==◌, true, if◌then◌else◌}
 use Rattle.std.specs.Prelude.{List, [], ◌∷◌, ◌++◌, length, Option, Some, None}
 use Rattle.std.specs.Prelude.{codes, decimal, slice_get, IfSome, IfNone}
+use Rattle.std.specs.List.{flat_map}
 use Rattle.pg_entry.specs.declared.Level.{Level}
 use Rattle.pg_event.specs.declared.event.Event.{Event}
 use Rattle.pg_event.specs.declared.event.Event.TheVariants.{Write, Access, Assist, MovCr3, Invlpg}
@@ -17,7 +18,6 @@ use Rattle.pg_event.specs.declared.event.Event.TheVariants.{Invpcid, MovCr4Pge}
 use Rattle.pg_event.specs.declared.event.Outcome.{Outcome}
 use Rattle.pg_event.specs.Heads.{Head}
 use Rattle.pg_event.specs.Form.{processor_of}
-use Rattle.pg_event.specs.Wants.{is_table}
 use Rattle.pg_search.specs.declared.last.Last.{Last}
 use Rattle.pg_search.specs.Last.{NoneWitness, IsLastOf, IsLast, HasNoLast}
 use Rattle.pg_search.specs.Changes.{AreKeptOf}
@@ -33,7 +33,7 @@ use Rattle.pg_explain.specs.Lasts.{last_seen_by, taken_in, dropped_in}
 use Rattle.pg_explain.specs.Line.{line_at, outcome_text, claim_text}
 use Rattle.pg_explain.specs.Names.{level_number}
 use Rattle.pg_explain.specs.Text.{held_text, writer_text, finding_text}
-use Rattle.pg_explain.specs.Walk.{IsWalk}
+use Rattle.pg_explain.specs.Walk.{IsWalk, down_to_end}
 
 -- these are the entries of a walk at the event
 abbrev pub IsWalkNow : Head → List Event → ℕ → Event → List WalkEntry → Type 0
@@ -95,10 +95,8 @@ now_entry_text x =
     now_level_text x.step.level
     ++ (held_text x.step.address x.step.value x.kind ++ writer_text x.writer)
 
--- the entries down to the first that is no table
 abbrev pub now_walk_text : List WalkEntry → List ℕ
-now_walk_text [] = []
-now_walk_text (x ∷ xs) = now_entry_text x ++ (if is_table x.kind then now_walk_text xs else [])
+now_walk_text walk = flat_map now_entry_text (down_to_end walk)
 
 abbrev pub given_text : Option Outcome → List ℕ
 given_text None = []

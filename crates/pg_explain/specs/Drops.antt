@@ -1,7 +1,8 @@
 -- The first event that takes a cached entry out.
-use Rattle.std.specs.Prelude.{ℕ, zero, suc, ◌+◌, ◌-◌, ◌<◌, Bool, if◌then◌else◌, List}
+use Rattle.std.specs.Prelude.{ℕ, zero, suc, ◌+◌, ◌-◌, Bool, if◌then◌else◌, List}
 use Rattle.std.specs.Prelude.{Option, Some, None, slice_get}
 use Rattle.pg_entry.specs.declared.Rules.{Rules}
+use Rattle.pg_entry.specs.Kinds.{IsPageShift}
 use Rattle.pg_event.specs.declared.event.Event.{Event}
 use Rattle.pg_event.specs.declared.control.Control.{Control}
 use Rattle.pg_event.specs.Heads.{Head}
@@ -31,7 +32,7 @@ abbrev pub first_drop : Head → List Event → ℕ → CacheKey → ℕ → ℕ
 first_drop head events p key from to =
     first_from (is_dropped_at head events p key) from (to - from)
 
--- a key that an entry may have: an address has 64 bits, so the shift of a page is below 64
+-- a key that an entry may have
 abbrev pub IsPageKey : CacheKey → Type 0
 IsPageKey (Structure key) = Unit {0}
-IsPageKey (Translation key) = key.shift < 64
+IsPageKey (Translation key) = IsPageShift key.shift

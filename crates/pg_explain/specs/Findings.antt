@@ -65,6 +65,22 @@ reason_of (findings.Accessed level address value) = reasons.Accessed
 reason_of (findings.Dirty address value) = reasons.Dirty
 reason_of (findings.Assist misfit) = reasons.Assist
 
+-- the event by which a cached entry had to go, where one had to
+abbrev pub dropper : Finding → Option ℕ
+dropper (findings.Order level moment limit) = None
+dropper (findings.Entry level wish kind) = None
+dropper (findings.Context first other) = None
+dropper (findings.StructureDropped level at) = Some at
+dropper (findings.TranslationDropped level at) = Some at
+dropper (findings.ForeignPcid read current) = None
+dropper (findings.NotAtEvent moment address value kind) = None
+dropper (findings.Rights rights access allowed prevention) = None
+dropper (findings.Answer expected) = None
+dropper (findings.Code expected) = None
+dropper (findings.Accessed level address value) = None
+dropper (findings.Dirty address value) = None
+dropper (findings.Assist misfit) = None
+
 -- ---- the walk
 
 -- what a moment must not be above: the next one, or the event where it is the last

@@ -29,6 +29,12 @@ last_seen_by taken last =
     last_moments_text last
     ++ (codes "; taken by " ++ (line_at last.number taken ++ codes "\n"))
 
+-- the number of the event after which it never was, where it ever was and no other moments do
+abbrev pub taker : Option (List ℕ) → Option Last → Option ℕ
+taker None None = None
+taker None (Some last) = Some last.number
+taker (Some ws) last = None
+
 -- the event after which it never was, where there is one
 abbrev pub taken_in : List Event → Option Last → Option Event
 taken_in events None = None

@@ -7,6 +7,7 @@ pub mod Findings
 pub mod Given
 pub mod Lacking
 pub mod Walk
+pub mod Writers
 pub mod Explained
 pub mod Filters
 pub mod Laws

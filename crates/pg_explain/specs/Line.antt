@@ -155,3 +155,11 @@ line_at number (Some e) = event_line number e
 
 abbrev pub numbered_text : List Event → ℕ → List ℕ
 numbered_text events number = line_at number (slice_get events number)
+
+-- the processor of the event with a number, or 0 where there is none
+abbrev pub processor_or : Option Event → ℕ
+processor_or None = 0
+processor_or (Some e) = processor_of e
+
+abbrev pub processor_at : List Event → ℕ → ℕ
+processor_at events number = processor_or (slice_get events number)

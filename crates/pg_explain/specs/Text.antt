@@ -8,8 +8,9 @@
 --     final: no moments prove this DEED       where none do
 --     last: ..                                then when it would last have been witnessed (`Lasts`)
 --     other moments would: M ..               else the freshest that do
-use Rattle.std.specs.Prelude.{ℕ, Bool, if◌then◌else◌, List, [], ◌∷◌, ◌++◌}
+use Rattle.std.specs.Prelude.{ℕ, Bool, if◌then◌else◌, List, [], ◌++◌}
 use Rattle.std.specs.Prelude.{Option, Some, None, codes, decimal, slice_get}
+use Rattle.std.specs.List.{flat_map}
 use Rattle.pg_entry.specs.declared.AccessKind.{AccessKind}
 use Rattle.pg_entry.specs.declared.Kind.{Kind}
 use Rattle.pg_entry.specs.declared.Kind.TheVariants as kinds
@@ -20,7 +21,6 @@ use Rattle.pg_event.specs.declared.event.Event.TheVariants.{Write, Access, Assis
 use Rattle.pg_event.specs.declared.event.Event.TheVariants.{Invpcid, MovCr4Pge}
 use Rattle.pg_event.specs.declared.event.Want.{Want}
 use Rattle.pg_event.specs.declared.event.Want.TheVariants as wants
-use Rattle.pg_event.specs.Wants.{is_table}
 use Rattle.pg_explain.specs.declared.entry.WalkEntry.{WalkEntry}
 use Rattle.pg_explain.specs.declared.explainer.Explanation.{Explanation}
 use Rattle.pg_explain.specs.declared.finding.Tagged.{Tagged}
@@ -38,6 +38,7 @@ use Rattle.pg_explain.specs.Names.{level_number, rights_text}
 use Rattle.pg_search.specs.declared.last.Last.{Last}
 use Rattle.pg_explain.specs.Lasts.{taken_text}
 use Rattle.pg_explain.specs.Line.{hex, word_text, numbers_text, kind_text, code_text}
+use Rattle.pg_explain.specs.Walk.{down_to_end}
 pub use Rattle.pg_explain.specs.Line.{line_at, numbered_text}
 
 abbrev pub kind_name : Kind → List ℕ
@@ -67,10 +68,8 @@ entry_text x =
     read_text x.step.level x.step.moment x.pcid
     ++ (held_text x.step.address x.step.value x.kind ++ writer_text x.writer)
 
--- the entries down to the first that is no table
 abbrev pub walk_text : List WalkEntry → List ℕ
-walk_text [] = []
-walk_text (x ∷ xs) = entry_text x ++ (if is_table x.kind then walk_text xs else [])
+walk_text walk = flat_map entry_text (down_to_end walk)
 
 -- ---- the finding
 

@@ -1,11 +1,12 @@
 -- The entries that the moments of an event name, and which events wrote them.
-use Rattle.std.specs.Prelude.{◌≡◌, ℕ, List, map}
+use Rattle.std.specs.Prelude.{◌≡◌, ℕ, if◌then◌else◌, List, [], ◌∷◌, map}
 use Rattle.std.specs.List.{AllByRecursion}
 use Rattle.pg_entry.specs.Kinds.{kind_of}
 use Rattle.pg_event.specs.declared.event.Event.{Event}
 use Rattle.pg_event.specs.Heads.{Head}
 use Rattle.pg_event.specs.Values.{control_at}
 use Rattle.pg_event.specs.Walk.{Reading}
+use Rattle.pg_event.specs.Wants.{is_table}
 use Rattle.pg_chain.specs.Walked.{reading_of}
 use Rattle.pg_search.specs.Writers.{IsWriter}
 use Rattle.pg_explain.specs.declared.entry.WalkEntry.{WalkEntry}
@@ -25,3 +26,8 @@ pub record IsWalk (head : Head) (events : List Event) (p la : ℕ) (moments : Li
     (walk : List WalkEntry) : Type 0 where
   pub read : map reading_at walk ≡ readings_by head events p la moments
   pub told : AllByRecursion (IsTold head events p) walk
+
+-- the entries of a walk down to the first that is no table
+abbrev pub down_to_end : List WalkEntry → List WalkEntry
+down_to_end [] = []
+down_to_end (x ∷ xs) = x ∷ (if is_table x.kind then down_to_end xs else [])

@@ -67,7 +67,7 @@ fn walk_of(
 {
     let steps = read_steps(alloc, seen, p, la, &[number; 4])?;
     let given = given_by(seen.header().cfg, kind, la, &steps);
-    let walk = tell(alloc, seen, p, &steps)?;
+    let walk = tell(alloc, seen, &None, p, &steps)?;
     Ok(Now { walk, given })
 }
 

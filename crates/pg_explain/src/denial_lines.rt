@@ -13,7 +13,7 @@ use crate::finding_text::push_finding;
 use crate::last_lines::{Takers, dropped_in, push_last_seen, taken_in};
 use crate::line::{push_claim, push_line_at, push_outcome};
 use crate::names::level_number;
-use crate::walk_finding::is_table;
+use crate::walk_end::down_to_end;
 use crate::walk_text::{push_held, push_writer};
 use pg_chain::EntryRead;
 use pg_entry::Level;
@@ -81,11 +81,8 @@ fn push_now_walk(text: &mut String, walk: &[WalkEntry]) -> Result<(), AllocError
     ensures { OnOk result
         (string_bytes text.new ≡ string_bytes text.old ++ now_walk_text walk.now) }
 {
-    for entry in walk {
+    for entry in down_to_end(walk) {
         push_now_entry(text, entry)?;
-        if !is_table(entry.kind) {
-            return Ok(());
-        }
     }
     Ok(())
 }

@@ -18,6 +18,7 @@ use pg_entry::{
     AccessKind, Cause, Cfg, Entry, Kind, Op, Rights, allowed, classify, error_code, page_offset,
 };
 use pg_event::{Claim, Outcome, Want, translation_key, want_of};
+use pg_search::Seen;
 
 /// The prevention without which rights would allow an access that they deny.
 fn prevention_of(cfg: Cfg, rights: Rights, access: AccessKind) -> Option<Prevention>
@@ -150,15 +151,13 @@ fn foreign_finding(read: Tagged, current: Tagged, global: bool) -> Option<Findin
     }
 }
 
-/// Whether the translation that a leaf gives is global: the leaf's bit 8 is set, and CR4.PGE was
-/// when it was read.
+/// Whether the translation is global that a leaf gives, by its bit 8.
 fn is_global(history: &History, p: u16, moment: u32, global_bit: bool) -> bool
     requires { p < length history.now.head.processors }
     ensures { result
         ≡ (global_bit && (control_at history.now.head history.now.events p moment).pge) }
 {
-    let control = history.control_at(p, moment);
-    global_bit && control.pge
+    Seen::of(history).is_global(p, global_bit, moment)
 }
 
 /// A leaf: the page that it maps, of 2 to the power of `shift` bytes, and its bit 8.

@@ -6,8 +6,11 @@ ghost use Rattle.pg_entry.specs.Kinds.{kind_of};
 ghost use Rattle.pg_event.specs.Values.{mem_at};
 ghost use Rattle.pg_chain.specs.Walked.{reading_of, entry_read, parent_of};
 ghost use Rattle.pg_explain.specs.Findings.{readings_by, last_of};
+ghost use Rattle.pg_search.specs.Writers.{IsWriter};
 ghost use Rattle.pg_explain.specs.Walk.{IsTold, IsWalk, reading_at};
+ghost use Rattle.pg_explain.specs.Writers.{AreKnown};
 
+use crate::writer_index::WriterIndex;
 use pg_chain::{EntryRead, kind_at};
 use pg_entry::{Entry, Kind, Level, combine, table_of};
 use pg_event::{Parent, below, entry_address, root_of};
@@ -80,9 +83,21 @@ pub(crate) fn read_steps(
     Ok(steps)
 }
 
+/// Who wrote the word of an entry that is read.
+fn writer_of(seen: &Seen<'_>, writers: &Option<WriterIndex<'_>>, step: EntryRead) -> Option<u32>
+    requires { AreKnown seen.now.events writers.now }
+    ensures { IsWriter seen.now.events step.address step.moment result }
+{
+    match writers {
+        Some(writers) => writers.writer(step.address, step.moment),
+        None => seen.writer(step.address, step.moment),
+    }
+}
+
 /// What is told of an entry that processor `p` reads.
-fn told(seen: &Seen<'_>, p: u16, step: EntryRead) -> WalkEntry
-    requires { p < length seen.now.head.processors }
+fn told(seen: &Seen<'_>, writers: &Option<WriterIndex<'_>>, p: u16, step: EntryRead) -> WalkEntry
+    requires processor { p < length seen.now.head.processors }
+    requires writers { AreKnown seen.now.events writers.now }
     ensures told { IsTold seen.now.head seen.now.events p result }
     ensures step { result.step ≡ step }
 {
@@ -90,7 +105,7 @@ fn told(seen: &Seen<'_>, p: u16, step: EntryRead) -> WalkEntry
         step,
         pcid: seen.control_at(p, step.moment).pcid,
         kind: kind_at(seen.header().cfg, step),
-        writer: seen.writer(step.address, step.moment),
+        writer: writer_of(seen, writers, step),
     }
 }
 
@@ -98,17 +113,19 @@ fn told(seen: &Seen<'_>, p: u16, step: EntryRead) -> WalkEntry
 pub(crate) fn tell(
     alloc: Global,
     seen: &Seen<'_>,
+    writers: &Option<WriterIndex<'_>>,
     p: u16,
     steps: &[EntryRead],
 ) -> Result<Vec<WalkEntry>, AllocError>
-    requires { p < length seen.now.head.processors }
+    requires processor { p < length seen.now.head.processors }
+    requires writers { AreKnown seen.now.events writers.now }
     ensures read { IfOk result (λ walk. map reading_at walk.items ≡ map reading_of steps.now) }
     ensures told { IfOk result (λ walk.
         AllByRecursion (IsTold seen.now.head seen.now.events p) walk.items) }
 {
     let mut walk = Vec::new(alloc);
     for step in steps {
-        walk.push(told(seen, p, *step))?;
+        walk.push(told(seen, writers, p, *step))?;
     }
     Ok(walk)
 }
@@ -132,7 +149,7 @@ pub fn walk_by(
         IsWalk seen.now.head seen.now.events p la moments.now walk.items) }
 {
     let steps = read_steps(alloc, seen, p, la, moments)?;
-    tell(alloc, seen, p, &steps)
+    tell(alloc, seen, &None, p, &steps)
 }
 
 /// What is read last.

@@ -12,12 +12,14 @@ ghost use Rattle.pg_explain.specs.Explained.{IsWalkOf, TellsEvent, IsExplained};
 ghost use Rattle.pg_explain.specs.Findings.{first_tag, claim_finding, access_finding};
 ghost use Rattle.pg_explain.specs.Findings.{mark_finding, assist_finding, event_finding};
 ghost use Rattle.pg_explain.specs.Walk.{IsWalk};
+ghost use Rattle.pg_explain.specs.Writers.{AreKnown};
 
 use crate::end_finding::end_finding;
 use crate::entry::{WalkEntry, last_step, read_steps, tell};
 use crate::finding::{Finding, Tagged};
 use crate::flag_finding::{accessed_finding, flag_finding, update_finding};
 use crate::walk_finding::{Asked, tagged, walk_finding};
+use crate::writer_index::WriterIndex;
 use pg_chain::EntryRead;
 use pg_check::History;
 use pg_event::{Claim, Event, Moments, Request, Update, Want, processor_of, want_of};
@@ -124,9 +126,11 @@ fn mark_finding(
 fn tell_access(
     alloc: Global,
     history: &History,
+    writers: &Option<WriterIndex<'_>>,
     claim: &Claim,
     moments: &[u32],
 ) -> Result<Option<Told>, AllocError>
+    requires writers { AreKnown history.now.events writers.now }
     requires processor { claim.now.p < length history.now.head.processors }
     requires some { 1 ≤ length moments.now }
     ensures { IfOk result (TellsEvent
@@ -141,7 +145,7 @@ fn tell_access(
     match claim_finding(history, claim, first, moments, &steps) {
         None => Ok(None),
         Some(finding) => {
-            let walk = tell(alloc, &seen, p, &steps)?;
+            let walk = tell(alloc, &seen, writers, p, &steps)?;
             Ok(Some(Told { walk, finding }))
         }
     }
@@ -151,9 +155,11 @@ fn tell_access(
 fn tell_assist(
     alloc: Global,
     history: &History,
+    writers: &Option<WriterIndex<'_>>,
     update: &Update,
     moments: &[u32],
 ) -> Result<Option<Told>, AllocError>
+    requires writers { AreKnown history.now.events writers.now }
     requires processor { update.now.p < length history.now.head.processors }
     requires some { 1 ≤ length moments.now }
     ensures { IfOk result (TellsEvent
@@ -168,7 +174,7 @@ fn tell_assist(
     match mark_finding(history, update, first, moments, &steps) {
         None => Ok(None),
         Some(finding) => {
-            let walk = tell(alloc, &seen, p, &steps)?;
+            let walk = tell(alloc, &seen, writers, p, &steps)?;
             Ok(Some(Told { walk, finding }))
         }
     }
@@ -178,10 +184,12 @@ fn tell_assist(
 fn tell_event(
     alloc: Global,
     history: &History,
+    writers: &Option<WriterIndex<'_>>,
     number: u32,
     event: &Event,
 ) -> Result<Option<Told>, AllocError>
-    requires { processor_of event.now < length history.now.head.processors }
+    requires processor { processor_of event.now < length history.now.head.processors }
+    requires writers { AreKnown history.now.events writers.now }
     ensures { IfOk result (TellsEvent
         (failing_event history.now.head history.now.events number event.now)
         (event_finding history.now.head history.now.events number event.now)
@@ -203,7 +211,7 @@ fn tell_event(
                 la,
                 outcome,
             };
-            tell_access(alloc, history, &claim, moments.as_slice())
+            tell_access(alloc, history, writers, &claim, moments.as_slice())
         }
         Request::Update {
             kind,
@@ -220,7 +228,7 @@ fn tell_event(
                 word,
                 dirty,
             };
-            tell_assist(alloc, history, &update, moments.as_slice())
+            tell_assist(alloc, history, writers, &update, moments.as_slice())
         }
     }
 }
@@ -250,15 +258,24 @@ fn last_of(
 ///
 /// The past is asked for the freshest other moments that prove the event and, where there are none,
 /// for when the event would last have been witnessed. Fails only when out of memory.
-pub fn explain(alloc: Global, history: &History, i: u64) -> Result<Option<Explanation>, AllocError>
-    requires { i < length history.now.events }
+///
+/// Who wrote an entry is looked up among writers, where they are given, and otherwise in a pass
+/// over the events.
+pub fn explain_with(
+    alloc: Global,
+    history: &History,
+    writers: &Option<WriterIndex<'_>>,
+    i: u64,
+) -> Result<Option<Explanation>, AllocError>
+    requires within { i < length history.now.events }
+    requires writers { AreKnown history.now.events writers.now }
     ensures { IfOk result (λ x. MatchOption x
         (Witnessed history.now.head history.now.events i)
         (IsExplained history.now.head history.now.events i)) }
 {
     let event = history.events()[i as usize];
     let number = i as u32;
-    match tell_event(alloc, history, number, &event)? {
+    match tell_event(alloc, history, writers, number, &event)? {
         None => Ok(None),
         Some(Told { walk, finding }) => {
             let other = freshest_moments(alloc, history, i)?;
@@ -272,4 +289,15 @@ pub fn explain(alloc: Global, history: &History, i: u64) -> Result<Option<Explan
             }))
         }
     }
+}
+
+/// What `explain_with` gives, of one event: who wrote its entries takes a pass over the events for
+/// each.
+pub fn explain(alloc: Global, history: &History, i: u64) -> Result<Option<Explanation>, AllocError>
+    requires { i < length history.now.events }
+    ensures { IfOk result (λ x. MatchOption x
+        (Witnessed history.now.head history.now.events i)
+        (IsExplained history.now.head history.now.events i)) }
+{
+    explain_with(alloc, history, &None, i)
 }

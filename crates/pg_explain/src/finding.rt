@@ -1,5 +1,5 @@
 ghost use Rattle.std.specs.Prelude.{◌≡◌};
-ghost use Rattle.pg_explain.specs.Findings.{reason_of};
+ghost use Rattle.pg_explain.specs.Findings.{reason_of, dropper};
 
 use pg_entry::{AccessKind, Kind, Level, Rights};
 use pg_event::{Reason, Want};
@@ -148,6 +148,28 @@ impl Finding {
             Finding::Accessed { .. } => Reason::Accessed,
             Finding::Dirty { .. } => Reason::Dirty,
             Finding::Assist(_) => Reason::Assist,
+        }
+    }
+
+    /// The event by which a cached entry had to go, by its number, where one had to.
+    pub fn dropper(self) -> Option<u32>
+        ensures { result ≡ dropper self }
+    {
+        match self {
+            Finding::StructureDropped { at, .. } | Finding::TranslationDropped { at, .. } => {
+                Some(at)
+            }
+            Finding::Order { .. }
+            | Finding::Entry { .. }
+            | Finding::Context { .. }
+            | Finding::ForeignPcid { .. }
+            | Finding::NotAtEvent { .. }
+            | Finding::Rights { .. }
+            | Finding::Answer { .. }
+            | Finding::Code { .. }
+            | Finding::Accessed { .. }
+            | Finding::Dirty { .. }
+            | Finding::Assist(_) => None,
         }
     }
 }

@@ -2,7 +2,7 @@
 
 ghost use Rattle.std.specs.Prelude.{◌≡◌, ◌++◌, OnOk, string_bytes};
 ghost use Rattle.pg_explain.specs.Lasts.{by_text, under_text, last_moments_text, last_seen_by};
-ghost use Rattle.pg_explain.specs.Lasts.{taken_in, dropped_in, taken_text};
+ghost use Rattle.pg_explain.specs.Lasts.{taker, taken_in, dropped_in, taken_text};
 
 use crate::line::{event_at, push_line_at, push_numbers};
 use pg_event::{Event, Moments};
@@ -52,6 +52,17 @@ pub fn push_last_moments(text: &mut String, last: &Last) -> Result<(), AllocErro
     write!(text, "last: moment {number}")?;
     push_by(text, &last.moments)?;
     push_under(text, last.other)
+}
+
+/// The number of the event after which another was no longer witnessed, where it ever was and no
+/// other moments would do.
+pub fn taker(other: Option<Moments>, last: Option<Last>) -> Option<u32>
+    ensures { result ≡ taker other last }
+{
+    match (other, last) {
+        (None, Some(last)) => Some(last.number),
+        (None, None) | (Some(_), _) => None,
+    }
 }
 
 /// The event after which another was no longer witnessed, where it ever was and these are the

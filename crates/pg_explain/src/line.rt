@@ -5,7 +5,7 @@ ghost use Rattle.pg_explain.specs.Line.{bit_names, opening, in_brackets, code_te
 ghost use Rattle.pg_explain.specs.Line.{word_text, numbers_text, moments_text};
 ghost use Rattle.pg_explain.specs.Line.{set_text, assist_text};
 ghost use Rattle.pg_explain.specs.Line.{switch_text, event_text, claim_text, named_text};
-ghost use Rattle.pg_explain.specs.Line.{event_line, line_at};
+ghost use Rattle.pg_explain.specs.Line.{event_line, line_at, processor_at};
 
 use pg_entry::{AccessKind, Op, has_bit};
 use pg_event::{Event, Moments, Outcome, Request, access_kind, processor_of, says_dirty};
@@ -255,6 +255,16 @@ pub fn event_at(events: &[Event], number: u32) -> Option<Event>
     match events.get(number as usize) {
         Some(event) => Some(*event),
         None => None,
+    }
+}
+
+/// The processor of the event with this number, or 0 where there is none.
+pub fn processor_at(events: &[Event], number: u32) -> u16
+    ensures { result ≡ processor_at events.now number }
+{
+    match events.get(number as usize) {
+        Some(event) => processor_of(event),
+        None => 0,
     }
 }
 

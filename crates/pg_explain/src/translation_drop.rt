@@ -1,9 +1,8 @@
 //! The event that had to drop the translation which an access would last have used.
 
-ghost use Rattle.std.specs.Prelude.{◌≡◌, ◌<◌, ◌&&◌, length, IfOk};
+ghost use Rattle.std.specs.Prelude.{◌≡◌, ◌<◌, length, IfOk};
 ghost use Rattle.pg_entry.specs.Kinds.{kind_of};
 ghost use Rattle.pg_event.specs.Form.{processor_of};
-ghost use Rattle.pg_event.specs.Values.{control_at};
 ghost use Rattle.pg_chain.specs.Walked.{reading_of};
 ghost use Rattle.pg_explain.specs.TranslationDrops.{IsDropBy, IsDropAfter, IsDropFor};
 
@@ -13,15 +12,6 @@ use pg_entry::Kind;
 use pg_event::{Event, Moments};
 use pg_search::{Last, Lookup, Seen};
 use std::alloc::{AllocError, Global};
-
-/// Whether a translation is global that processor `p` read at a moment in an entry whose bit 8 is
-/// this (Intel SDM, vol. 3, 4.10.2.4).
-fn is_global(seen: &Seen<'_>, p: u16, bit: bool, moment: u32) -> bool
-    requires { p < length seen.now.head.processors }
-    ensures { result ≡ (bit && (control_at seen.now.head seen.now.events p moment).pge) }
-{
-    bit && seen.control_at(p, moment).pge
-}
 
 /// The first event below a number that had to drop the translation of what was read under a PCID.
 fn drop_by(seen: &Seen<'_>, number: u32, p: u16, la: u64, pcid: u16, step: EntryRead) -> Option<u32>
@@ -38,7 +28,7 @@ fn drop_by(seen: &Seen<'_>, number: u32, p: u16, la: u64, pcid: u16, step: Entry
     else {
         return None;
     };
-    let global = is_global(seen, p, global_bit, step.moment);
+    let global = seen.is_global(p, global_bit, step.moment);
     let lookup = Lookup { p, pcid, la };
     let end = seen.translation_end(lookup, shift, global, step.moment);
     if end < number { Some(end) } else { None }

@@ -1,19 +1,19 @@
 //! The text of a walk, an entry a line.
 
 ghost use Rattle.std.specs.Prelude.{◌≡◌, ◌++◌, OnOk, string_bytes};
-ghost use Rattle.pg_event.specs.Wants.{is_table};
 ghost use Rattle.pg_explain.specs.Text.{kind_name, held_text, read_text, writer_text};
 ghost use Rattle.pg_explain.specs.Text.{entry_text, walk_text};
 
 use crate::entry::WalkEntry;
 use crate::line::push_word;
 use crate::names::level_number;
-use crate::walk_finding::is_table;
+use crate::walk_end::down_to_end;
 use pg_chain::EntryRead;
 use pg_entry::{Kind, Level};
 use std::alloc::AllocError;
 
-pub(crate) fn kind_name(kind: Kind) -> &'static str
+/// What an entry is, as its line says it.
+pub fn kind_name(kind: Kind) -> &'static str
     ensures { result.now ≡ kind_name kind }
 {
     match kind {
@@ -80,11 +80,8 @@ pub(crate) fn push_walk(text: &mut String, walk: &[WalkEntry]) -> Result<(), All
     ensures { OnOk result
         (string_bytes text.new ≡ string_bytes text.old ++ walk_text walk.now) }
 {
-    for entry in walk {
+    for entry in down_to_end(walk) {
         push_entry(text, entry)?;
-        if !is_table(entry.kind) {
-            return Ok(());
-        }
     }
     Ok(())
 }

@@ -1,5 +1,5 @@
 -- The stepper's tests of an access and of an assist decide whether it may come.
-use Rattle.std.proofs.Common.{◌≡◌, ℕ, ◌+◌, ◌%◌, ◌^◌, Bool, true, ◌&&◌, refl, ap, subst, ◌∙◌, sym, ⊎_elim}
+use Rattle.std.proofs.Common.{◌≡◌, ℕ, ◌+◌, ◌%◌, ◌^◌, Bool, true, refl, ap, subst, ◌∙◌, sym, ⊎_elim}
 use Rattle.std.proofs.lemmas.Bool.{or_cases, or_left, or_right, and_parts, and_from, eqb-true, eq-eqb, not-true, not_from_false}
 use Rattle.pg_entry.specs.declared.Cfg.{Cfg}
 use Rattle.pg_entry.specs.declared.AccessKind.{AccessKind}
@@ -10,11 +10,13 @@ use Rattle.pg_entry.specs.declared.Kind.TheVariants as kinds
 use Rattle.pg_entry.specs.declared.Cause.{Cause}
 use Rattle.pg_entry.specs.declared.Cause.TheVariants as causes
 use Rattle.pg_entry.specs.Permission.{is_allowed, fault_code}
+use Rattle.pg_event.specs.declared.control.Control.{Control}
 use Rattle.pg_event.specs.declared.event.Outcome.{Outcome}
 use Rattle.pg_event.specs.declared.event.Outcome.TheVariants.{Page, Fault}
 use Rattle.pg_event.specs.declared.event.Want.{Want}
 use Rattle.pg_event.specs.declared.event.Want.TheVariants as wants
 use Rattle.pg_event.specs.declared.walk.Parent.{Parent}
+use Rattle.pg_event.specs.Heads.{Head}
 use Rattle.pg_event.specs.Invalidation.{level_shift, bits_from, structure_matches}
 use Rattle.pg_event.specs.Walk.{below, entry_address, root_of}
 use Rattle.pg_event.specs.Wants.{is_wanted}
@@ -24,20 +26,29 @@ use Rattle.pg_machine.specs.declared.step.Structure.{Structure}
 use Rattle.pg_machine.specs.declared.step.Translation.{Translation}
 use Rattle.pg_machine.specs.Listed.{Listed, processor_at, state_of}
 use Rattle.pg_machine.specs.Machine.{IsIn, MayRead, MayAssist, structure_at, is_usable, may_serve, Answers, HasOutcome}
-use Rattle.pg_machine.specs.Stepping.{is_sought, is_leading, leads_to_sought, finds, answers, faults_by, has_outcome}
+use Rattle.pg_machine.specs.Stepping.{is_sought, is_leading, leads_to_sought, finds, answers, gives, faults_by, has_outcome}
 use Rattle.pg_machine.proofs.Members.{passes, any_passes}
 
 -- a translation's answer
-answers_says : (l : Listed) (access : AccessKind) (la : ℕ) (t : Translation) (outcome : Outcome) → answers l.head access la outcome t ≡ true → Answers l.head access la t outcome
-answers_says l access la t (Page page) h =
+answers_says : (head : Head) (access : AccessKind) (la : ℕ) (t : Translation) (outcome : Outcome) → answers head access la outcome t ≡ true → Answers head access la t outcome
+answers_says head access la t (Page page) h =
     let parts = and_parts _ _ h in
-    let first = and_parts (is_allowed l.head.cfg t.rights access) (may_serve l.head.version access t) parts.0 in
+    let first = and_parts (is_allowed head.cfg t.rights access) (may_serve head.version access t) parts.0 in
     (first.0, first.1, eqb-true _ _ parts.1)
-answers_says l access la t (Fault code) h = let parts = and_parts _ _ h in (not-true _ parts.0, eqb-true _ _ parts.1)
+answers_says head access la t (Fault code) h = let parts = and_parts _ _ h in (not-true _ parts.0, eqb-true _ _ parts.1)
 
-answers-from : (l : Listed) (access : AccessKind) (la : ℕ) (t : Translation) (outcome : Outcome) → Answers l.head access la t outcome → answers l.head access la outcome t ≡ true
-answers-from l access la t (Page page) h = and_from _ _ (and_from (is_allowed l.head.cfg t.rights access) (may_serve l.head.version access t) h.0 h.1) (eq-eqb page (t.frame + la % 2 ^ t.key.shift) h.2)
-answers-from l access la t (Fault code) h = and_from _ _ (not_from_false _ h.0) (eq-eqb code (fault_code l.head.cfg access causes.Denied) h.1)
+answers-from : (head : Head) (access : AccessKind) (la : ℕ) (t : Translation) (outcome : Outcome) → Answers head access la t outcome → answers head access la outcome t ≡ true
+answers-from head access la t (Page page) h = and_from _ _ (and_from (is_allowed head.cfg t.rights access) (may_serve head.version access t) h.0 h.1) (eq-eqb page (t.frame + la % 2 ^ t.key.shift) h.2)
+answers-from head access la t (Fault code) h = and_from _ _ (not_from_false _ h.0) (eq-eqb code (fault_code head.cfg access causes.Denied) h.1)
+
+-- a translation that may be used and answers
+pub gives_says : (head : Head) (c : Control) (la : ℕ) (access : AccessKind) (outcome : Outcome) (t : Translation) → gives head c la access outcome t ≡ true → (is_usable c la t ≡ true) × Answers head access la t outcome
+gives_says head c la access outcome t h =
+    let parts = and_parts (is_usable c la t) (answers head access la outcome t) h in
+    (parts.0, answers_says head access la t outcome parts.1)
+
+pub gives-from : (head : Head) (c : Control) (la : ℕ) (access : AccessKind) (outcome : Outcome) (t : Translation) → is_usable c la t ≡ true → Answers head access la t outcome → gives head c la access outcome t ≡ true
+gives-from head c la access outcome t usable h = and_from (is_usable c la t) (answers head access la outcome t) usable (answers-from head access la t outcome h)
 
 -- a word of the wanted kind
 absent_is : (k : Kind) → is_wanted wants.Absent k ≡ true → k ≡ kinds.Absent
@@ -129,9 +140,9 @@ faults-from cfg access cause (Fault code) h = eq-eqb code (fault_code cfg access
 pub outcome_says : (l : Listed) (p la : ℕ) (access : AccessKind) (outcome : Outcome) (want : Want) → has_outcome l.head l.writes (processor_at l.processors p) access la outcome want ≡ true → HasOutcome l.head (state_of l) p la access outcome want
 outcome_says l p la access outcome wants.Leaf h =
     let processor = processor_at l.processors p in
-    let found = passes (λ t. is_usable processor.control la t && answers l.head access la outcome t) processor.translations h in
-    let parts = and_parts (is_usable processor.control la found.0) (answers l.head access la outcome found.0) found.2 in
-    (found.0, found.1, parts.0, answers_says l access la found.0 outcome parts.1)
+    let found = passes (λ t. gives l.head processor.control la access outcome t) processor.translations h in
+    let parts = gives_says l.head processor.control la access outcome found.0 found.2 in
+    (found.0, found.1, parts.0, parts.1)
 outcome_says l p la access outcome wants.Absent h =
     let parts = and_parts _ _ h in
     let x = found l p la (soughts.Entry wants.Absent) parts.1 in
@@ -145,8 +156,8 @@ outcome_says l p la access outcome wants.Present h = cc
 pub outcome-from : (l : Listed) (p la : ℕ) (access : AccessKind) (outcome : Outcome) (want : Want) → HasOutcome l.head (state_of l) p la access outcome want → has_outcome l.head l.writes (processor_at l.processors p) access la outcome want ≡ true
 outcome-from l p la access outcome wants.Leaf h =
     let processor = processor_at l.processors p in
-    any_passes (λ t. is_usable processor.control la t && answers l.head access la outcome t) h.0 processor.translations h.1
-    (and_from (is_usable processor.control la h.0) (answers l.head access la outcome h.0) h.2 (answers-from l access la h.0 outcome h.3))
+    any_passes (λ t. gives l.head processor.control la access outcome t) h.0 processor.translations h.1
+    (gives-from l.head processor.control la access outcome h.0 h.2 h.3)
 outcome-from l p la access outcome wants.Absent h =
     and_from _ _ (faults-from l.head.cfg access causes.Absent outcome h.4) (found-from l p la (soughts.Entry wants.Absent) h.0 h.1 h.2 (ap (is_wanted wants.Absent) h.3))
 outcome-from l p la access outcome wants.Reserved h =

@@ -131,10 +131,13 @@ answers head access la (Page page) t =
 answers head access la (Fault code) t =
     not (is_allowed head.cfg t.rights access) && code == fault_code head.cfg access causes.Denied
 
+-- whether a translation may be used for an access and answers it so
+abbrev pub gives : Head → Control → ℕ → AccessKind → Outcome → Translation → Bool
+gives head control la access outcome t = is_usable control la t && answers head access la outcome t
+
 abbrev pub has_answer : Head → ProcessorState → AccessKind → ℕ → Outcome → Bool
 has_answer head processor access la outcome =
-    list_any (λ t. is_usable processor.control la t && answers head access la outcome t)
-    processor.translations
+    list_any (λ t. gives head processor.control la access outcome t) processor.translations
 
 abbrev pub faults_by : Cfg → AccessKind → Cause → Outcome → Bool
 faults_by cfg access cause (Page page) = false

@@ -13,5 +13,6 @@ mod stuck;
 
 pub use law::{runs_under_fewer_rules, some_record_has_no_run};
 pub use machine::Machine;
+pub use processor::gives;
 pub use step::{Member, Step, Structure, Translation};
 pub use stuck::Stuck;

@@ -1,12 +1,13 @@
-ghost use Rattle.std.specs.Prelude.{◌≡◌, ◌<◌, ◌≤◌, ◌^◌, [], ◌∷◌, IsTrue, OnOk, OnErr};
+ghost use Rattle.std.specs.Prelude.{◌≡◌, ◌<◌, ◌≤◌, ◌^◌, ◌↔◌, [], ◌∷◌, IsTrue, OnOk, OnErr, true};
 ghost use Rattle.std.specs.List.{list_any};
 ghost use Rattle.pg_event.specs.Wants.{want_of};
 ghost use Rattle.pg_machine.specs.Machine.{same_structure, same_translation, is_usable, may_serve};
+ghost use Rattle.pg_machine.specs.Machine.{Answers};
 ghost use Rattle.pg_machine.specs.Stepping.{started_processor, leading_entry, has_structure};
 ghost use Rattle.pg_machine.specs.Stepping.{has_translation, is_root, leads, may_read, has_member};
 ghost use Rattle.pg_machine.specs.Stepping.{without_member, finds, leads_to_sought, answers};
 ghost use Rattle.pg_machine.specs.Stepping.{has_answer, faults_by, has_outcome, processor_after};
-ghost use Rattle.pg_machine.specs.Stepping.{without_taken};
+ghost use Rattle.pg_machine.specs.Stepping.{without_taken, gives};
 
 use crate::cached::{CachedStructure, CachedTranslation};
 use crate::memory::Memory;
@@ -198,9 +199,7 @@ impl Processor {
     {
         let control = self.control;
         self.translations.iter().rev().any(|x| {
-            let translation = x.get();
-            is_usable(control, la, &translation)
-                && answers(header, access, la, outcome, &translation)
+            gives(header, control, la, access, outcome, &x.get())
         })
     }
 
@@ -332,6 +331,26 @@ fn may_serve(version: Version, access: AccessKind, translation: &Translation) ->
         Version::One => true,
         Version::Two => !matches!(access.op, Op::Write) || translation.dirty,
     }
+}
+
+/// Whether a processor with these control registers may use a translation for an access to a linear
+/// address, and the access then has this outcome: an address in a page, or a fault by the rights
+/// (Intel SDM, vol. 3, 4.6, 4.10.2.4).
+pub fn gives(
+    header: &Header,
+    control: Control,
+    la: u64,
+    access: AccessKind,
+    outcome: Outcome,
+    translation: &Translation,
+) -> bool
+    requires size { translation.now.key.shift ≤ 30 }
+    requires within { translation.now.frame < 2 ^ 52 }
+    ensures value { result ≡ gives header.now control la access outcome translation.now }
+    ensures meaning { IsTrue result ↔ (is_usable control la translation.now ≡ true)
+        × Answers header.now access la translation.now outcome }
+{
+    is_usable(control, la, translation) && answers(header, access, la, outcome, translation)
 }
 
 fn faults_by(cfg: Cfg, access: AccessKind, cause: Cause, outcome: Outcome) -> bool

@@ -9,8 +9,8 @@ use Rattle.std.proofs.lemmas.List.Sums.{sum_by-cons}
 use Rattle.std.proofs.Math.Decide.{ℕ_discrete}
 use Rattle.pg_pool.specs.declared.round.Round.{Round}
 use Rattle.pg_pool.specs.Rounds.{round, IsIn, numbers, dealt, others, visited}
-use Rattle.pg_pool.specs.declared.hand.Hand.{Hand}
-use Rattle.pg_pool.specs.Shares.{times, hand, Pushed}
+use Rattle.pg_pool.specs.declared.deque_view.DequeView.{DequeView}
+use Rattle.pg_pool.specs.DequeRule.{times, deque_view, Pushed}
 use Rattle.pg_pool.specs.Seats.{DequeId, Deques, Part, Checker, untouched, way_to_part, part_at, times_pushed, IsDeal, part_at_start, seat_at_start, seats_at_start, lone_seat, nobody, seat_of, way_to}
 use Rattle.pg_pool.proofs.Times.{times-append, times-same, same_test, other_test}
 
@@ -33,14 +33,14 @@ pub left_more : (p : ℕ → Bool) (a n : ℕ) → a ≤ n → p n ≡ false →
 left_more p a n h is =
     ap (filter p) (numbers-more a n h) ∙ filter-append p (numbers (round a n)) (n ∷ []) ∙ ap (λ (b : Bool). filter p (numbers (round a n)) ++ cond b (n ∷ []) []) is ∙ append-nil _
 
-pub dealt_kept : (a n size checkers c : ℕ) (old new : Hand) → a ≤ n → ((n - a) / size) % checkers ≡ c → old ≡ hand true (dealt (round a n) size checkers c) []
-    → Pushed old (n ∷ []) new → new ≡ hand true (dealt (round a (n + 1)) size checkers c) []
+pub dealt_kept : (a n size checkers c : ℕ) (old new : DequeView) → a ≤ n → ((n - a) / size) % checkers ≡ c → old ≡ deque_view true (dealt (round a n) size checkers c) []
+    → Pushed old (n ∷ []) new → new ≡ deque_view true (dealt (round a (n + 1)) size checkers c) []
 dealt_kept a n size checkers c old new h own was pushed =
-    pushed ∙ ap (λ (u : Hand). hand u.alone (u.pushed ++ n ∷ []) u.taken) was
-    ∙ ap (λ (l : List ℕ). hand true l []) (sym (kept_more (λ x. ((x - a) / size) % checkers == c) a n h (same_test _ _ own)))
+    pushed ∙ ap (λ (u : DequeView). deque_view u.alone (u.pushed ++ n ∷ []) u.taken) was
+    ∙ ap (λ (l : List ℕ). deque_view true l []) (sym (kept_more (λ x. ((x - a) / size) % checkers == c) a n h (same_test _ _ own)))
 
-pub dealt_left : (a n size checkers c : ℕ) → a ≤ n → (((n - a) / size) % checkers ≡ c → ⊥) → hand true (dealt (round a n) size checkers c) [] ≡ hand true (dealt (round a (n + 1)) size checkers c) []
-dealt_left a n size checkers c h other = ap (λ (l : List ℕ). hand true l []) (sym (left_more (λ x. ((x - a) / size) % checkers == c) a n h (other_test _ _ other)))
+pub dealt_left : (a n size checkers c : ℕ) → a ≤ n → (((n - a) / size) % checkers ≡ c → ⊥) → deque_view true (dealt (round a n) size checkers c) [] ≡ deque_view true (dealt (round a (n + 1)) size checkers c) []
+dealt_left a n size checkers c h other = ap (λ (l : List ℕ). deque_view true l []) (sym (left_more (λ x. ((x - a) / size) % checkers == c) a n h (other_test _ _ other)))
 
 -- how often a number was dealt
 

@@ -4,7 +4,7 @@ use Rattle.std.proofs.lemmas.List.{map-append}
 use Rattle.std.proofs.lemmas.List.Elements.{All-nil, All-push, Contains-append_left, Contains-push}
 use Rattle.std.proofs.Math.Decide.{ℕ_discrete}
 use Rattle.pg_pool.specs.declared.round.Round.{Round}
-use Rattle.pg_pool.specs.declared.told.Told.{Told}
+use Rattle.pg_pool.specs.declared.numbered_verdict.NumberedVerdict.{NumberedVerdict}
 use Rattle.pg_pool.specs.Rounds.{IsIn}
 use Rattle.pg_pool.specs.Seats.{Checker, has_taken}
 use Rattle.pg_pool.specs.Verdicts.{IsTold, numbers_of}
@@ -24,13 +24,13 @@ module _ {V : Type 0} (tells : ℕ → V → Type 0) where
   }
 
   -- one more was taken and judged
-  pub HasJudged-more : (r : Round) (old new : Checker) (n : ℕ) (before room after : List (Told V)) (t : Told V) → HasJudged tells r old before → new.round ≡ old.round → IsIn old.round n
+  pub HasJudged-more : (r : Round) (old new : Checker) (n : ℕ) (before room after : List (NumberedVerdict V)) (t : NumberedVerdict V) → HasJudged tells r old before → new.round ≡ old.round → IsIn old.round n
       → ((m : ℕ) → has_taken new m ≡ (has_taken old m || m == n)) → room ≡ before → t.number ≡ n → tells n t.verdict → after ≡ room ++ t ∷ [] → HasJudged tells r new after
   HasJudged-more r old new n before room after t h same within marked kept number so pushed =
-      let grown : after ≡ before ++ t ∷ [] = pushed ∙ ap (λ (l : List (Told V)). l ++ t ∷ []) kept in
-      let split : numbers_of (before ++ t ∷ []) ≡ numbers_of before ++ t.number ∷ [] = map-append (λ (t : Told V). t.number) before (t ∷ []) in
+      let grown : after ≡ before ++ t ∷ [] = pushed ∙ ap (λ (l : List (NumberedVerdict V)). l ++ t ∷ []) kept in
+      let split : numbers_of (before ++ t ∷ []) ≡ numbers_of before ++ t.number ∷ [] = map-append (λ (t : NumberedVerdict V). t.number) before (t ∷ []) in
       let here : IsTold tells r t = (subst (λ (q : Round). IsIn q t.number) h.round (subst (λ (k : ℕ). IsIn old.round k) (sym number) within), subst (λ (k : ℕ). tells k t.verdict) (sym number) so) in
-      subst (λ (l : List (Told V)). HasJudged tells r new l) (sym grown) (record {
+      subst (λ (l : List (NumberedVerdict V)). HasJudged tells r new l) (sym grown) (record {
         round = same ∙ h.round;
         right = All-push (IsTold tells r) before t h.right here;
         whole = λ m taken. subst (λ (l : List ℕ). Contains l m) (sym split) (elim (ℕ_discrete m n) [

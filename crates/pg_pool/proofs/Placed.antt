@@ -7,7 +7,7 @@ use Rattle.std.proofs.lemmas.List.FromFn.{length-map-range_with_len, length-rang
 use Rattle.std.proofs.Math.Decide.{ℕ_discrete}
 use Rattle.pg_pool.specs.declared.checker.Done.{Done}
 use Rattle.pg_pool.specs.declared.round.Round.{Round}
-use Rattle.pg_pool.specs.declared.told.Told.{Told}
+use Rattle.pg_pool.specs.declared.numbered_verdict.NumberedVerdict.{NumberedVerdict}
 use Rattle.pg_pool.specs.Rounds.{round, IsIn, numbers, visited}
 use Rattle.pg_pool.specs.Seats.{Checker, has_taken, is_taken, round_of, untaken, AreOfOneRound, AreAtStart, seat_at_start, part_at_start}
 use Rattle.pg_pool.specs.Verdicts.{AreVerdicts, IsTold, numbers_of, placed}
@@ -23,13 +23,13 @@ Judges tells r d = HasJudged tells r d.seat d.told.items
 record StandsAt {V : Type 0} (tells : ℕ → V → Type 0) (r : Round) (verdicts : List V) (n : ℕ) : Type 0 where
   pub at : (d : V) → tells n (get_or verdicts (n - r.first) d)
 
-length-placed : {V : Type 0} (first : ℕ) (old : List V) (more : List (Told V)) → length (placed first old more) ≡ length old
+length-placed : {V : Type 0} (first : ℕ) (old : List V) (more : List (NumberedVerdict V)) → length (placed first old more) ≡ length old
 length-placed first old [] = refl
 length-placed first old (t ∷ ts) = length-placed first (set old (t.number - first) t.verdict) ts ∙ length-set old (t.number - first) t.verdict
 
 module _ {V : Type 0} (tells : ℕ → V → Type 0) (r : Round) where
   -- one is told more
-  puts : (old : List V) (t : Told V) (n : ℕ) → length old ≡ r.last - r.first → IsTold tells r t → t.number ≡ n → StandsAt tells r (set old (t.number - r.first) t.verdict) n
+  puts : (old : List V) (t : NumberedVerdict V) (n : ℕ) → length old ≡ r.last - r.first → IsTold tells r t → t.number ≡ n → StandsAt tells r (set old (t.number - r.first) t.verdict) n
   puts old t n size is same = record {
     at = λ d.
         let there : get_or (set old (t.number - r.first) t.verdict) (n - r.first) d ≡ t.verdict =
@@ -38,7 +38,7 @@ module _ {V : Type 0} (tells : ℕ → V → Type 0) (r : Round) where
         subst (tells n) (sym there) (subst (λ (k : ℕ). tells k t.verdict) same is.1);
   }
 
-  keeps : (old : List V) (t : Told V) (n : ℕ) → length old ≡ r.last - r.first → IsTold tells r t → IsIn r n → StandsAt tells r old n → StandsAt tells r (set old (t.number - r.first) t.verdict) n
+  keeps : (old : List V) (t : NumberedVerdict V) (n : ℕ) → length old ≡ r.last - r.first → IsTold tells r t → IsIn r n → StandsAt tells r old n → StandsAt tells r (set old (t.number - r.first) t.verdict) n
   keeps old t n size is within stands = elim (ℕ_discrete n t.number) [
     | yes e ↦ puts old t n size is (sym e)
     | no apart ↦ record {
@@ -46,14 +46,14 @@ module _ {V : Type 0} (tells : ℕ → V → Type 0) (r : Round) where
     }
   ]
 
-  stays : (old : List V) (more : List (Told V)) (n : ℕ) → length old ≡ r.last - r.first → All (IsTold tells r) more → IsIn r n → StandsAt tells r old n → StandsAt tells r (placed r.first old more) n
+  stays : (old : List V) (more : List (NumberedVerdict V)) (n : ℕ) → length old ≡ r.last - r.first → All (IsTold tells r) more → IsIn r n → StandsAt tells r old n → StandsAt tells r (placed r.first old more) n
   stays old [] n size all within stands = stands
   stays old (t ∷ ts) n size all within stands =
       stays (set old (t.number - r.first) t.verdict) ts n (length-set old (t.number - r.first) t.verdict ∙ size) (All-tail (IsTold tells r) t ts all) within
       (keeps old t n size (All-head (IsTold tells r) t ts all) within stands)
 
   -- what is told stands at its place
-  comes : (old : List V) (more : List (Told V)) (n : ℕ) → length old ≡ r.last - r.first → All (IsTold tells r) more → IsIn r n → Contains (numbers_of more) n → StandsAt tells r (placed r.first old more) n
+  comes : (old : List V) (more : List (NumberedVerdict V)) (n : ℕ) → length old ≡ r.last - r.first → All (IsTold tells r) more → IsIn r n → Contains (numbers_of more) n → StandsAt tells r (placed r.first old more) n
   comes old [] n size all within (k, less, is) = absurd (omega arith)
   comes old (t ∷ ts) n size all within (zero, less, is) =
       stays (set old (t.number - r.first) t.verdict) ts n (length-set old (t.number - r.first) t.verdict ∙ size) (All-tail (IsTold tells r) t ts all) within
@@ -62,9 +62,9 @@ module _ {V : Type 0} (tells : ℕ → V → Type 0) (r : Round) where
       comes (set old (t.number - r.first) t.verdict) ts n (length-set old (t.number - r.first) t.verdict ∙ size) (All-tail (IsTold tells r) t ts all) within (k, omega (arith, less), is)
 
   -- what was told is of the round
-  pub told_within : (first size : ℕ) (told : List (Told V)) → first ≡ r.first → size ≡ r.last - r.first → r.first ≤ r.last → All (IsTold tells r) told → All (λ t. IsIn (round first (first + size)) t.number) told
+  pub told_within : (first size : ℕ) (told : List (NumberedVerdict V)) → first ≡ r.first → size ≡ r.last - r.first → r.first ≤ r.last → All (IsTold tells r) told → All (λ t. IsIn (round first (first + size)) t.number) told
   told_within first size told low is ordered all =
-      All-weaker (IsTold tells r) (λ (t : Told V). IsIn (round first (first + size)) t.number) (λ t so. (omega (arith, low, so.0.0), omega (arith, low, is, ordered, so.0.1))) told all
+      All-weaker (IsTold tells r) (λ (t : NumberedVerdict V). IsIn (round first (first + size)) t.number) (λ t so. (omega (arith, low, so.0.0), omega (arith, low, is, ordered, so.0.1))) told all
 
   all_right : {B : Type 0} (done : List (Done B V)) → All (Judges tells r) done → All (IsTold tells r) (all_told done)
   all_right [] all = All-nil (IsTold tells r)
@@ -74,7 +74,7 @@ module _ {V : Type 0} (tells : ℕ → V → Type 0) (r : Round) where
   -- of a number that was taken something is told
   taken_has : {B : Type 0} (done : List (Done B V)) (n : ℕ) → All (Judges tells r) done → is_taken (map (λ d. d.seat) done) n ≡ true → Contains (numbers_of (all_told done)) n
   taken_has [] n all taken = absurd (true≢false (sym taken))
-  taken_has (d ∷ ds) n all taken = subst (λ (l : List ℕ). Contains l n) (sym (map-append (λ (t : Told V). t.number) d.told.items (all_told ds))) (go (has_taken d.seat n) refl (taken_has ds n (All-tail (Judges tells r) d ds all)))
+  taken_has (d ∷ ds) n all taken = subst (λ (l : List ℕ). Contains l n) (sym (map-append (λ (t : NumberedVerdict V). t.number) d.told.items (all_told ds))) (go (has_taken d.seat n) refl (taken_has ds n (All-tail (Judges tells r) d ds all)))
     where
       go : (b : Bool) → has_taken d.seat n ≡ b → (is_taken (map (λ d. d.seat) ds) n ≡ true → Contains (numbers_of (all_told ds)) n) → Contains (numbers_of d.told.items ++ numbers_of (all_told ds)) n
       go true e ih = Contains-append_left (numbers_of d.told.items) (numbers_of (all_told ds)) n ((All-head (Judges tells r) d ds all).whole n e)
@@ -145,11 +145,11 @@ module _ {B V : Type 0} (tells : ℕ → V → Type 0) (r : Round) where
   judged_by keeps done all = All-weaker (IsDone keeps tells r) (Judges tells r) (λ d is. is.judged) done all
 
   -- and all keep what they should
-  pub kept_by : (keeps : B → Type 0) (done : List (Done B V)) → All (IsDone keeps tells r) done → All keeps (map (λ d. d.bench) done)
-  kept_by keeps done all = All-map keeps (λ (d : Done B V). d.bench) done (All-weaker (IsDone keeps tells r) (λ (d : Done B V). keeps d.bench) (λ d is. is.kept) done all)
+  pub kept_by : (keeps : B → Type 0) (done : List (Done B V)) → All (IsDone keeps tells r) done → All keeps (map (λ d. d.state) done)
+  kept_by keeps done all = All-map keeps (λ (d : Done B V). d.state) done (All-weaker (IsDone keeps tells r) (λ (d : Done B V). keeps d.state) (λ d is. is.kept) done all)
 
   -- once what the checkers told and what was told of the numbers left is at its place, all is
-  pub gathered : (done here : List (Done B V)) (seats : List Checker) (old mid new : List V) (left there : List ℕ) (rest last : List (Told V)) → 0 < length done → All (Judges tells r) done → length old ≡ r.last - r.first
+  pub gathered : (done here : List (Done B V)) (seats : List Checker) (old mid new : List V) (left there : List ℕ) (rest last : List (NumberedVerdict V)) → 0 < length done → All (Judges tells r) done → length old ≡ r.last - r.first
       → here ≡ done → mid ≡ placed r.first old (all_told here) → seats ≡ map (λ d. d.seat) done → left ≡ untaken seats → there ≡ left → numbers_of rest ≡ there → All (IsTold tells r) rest → last ≡ rest → new ≡ placed r.first mid last
       → AreVerdicts tells r new
   gathered done here seats old mid new left there rest last some all size same first of is there_is numbers right last_is second =

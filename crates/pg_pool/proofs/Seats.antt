@@ -8,36 +8,36 @@ use Rattle.std.proofs.lemmas.List.Sums.{sum_by-set, sum_by-cons, sum_by-append, 
 use Rattle.std.proofs.Math.Decide.{ℕ_discrete}
 use Rattle.std.proofs.Math.Seq.{map-set_same}
 use Rattle.crossbeam_deque.specs.Handles.{view, stealer_deque}
-use Rattle.pg_pool.specs.declared.hand.Hand.{Hand}
+use Rattle.pg_pool.specs.declared.deque_view.DequeView.{DequeView}
 use Rattle.pg_pool.specs.declared.round.Round.{Round}
-use Rattle.pg_pool.specs.declared.thief.Thief.{Thief}
+use Rattle.pg_pool.specs.declared.other_deque.OtherDeque.{OtherDeque}
 use Rattle.pg_pool.specs.Rounds.{IsIn}
-use Rattle.pg_pool.specs.Shares.{times, Took}
+use Rattle.pg_pool.specs.DequeRule.{times, Took}
 use Rattle.pg_pool.specs.Seats.{DequeId, Part, part_of, no_part, part_at, times_taken, times_pushed, with_taken, TookPushed, TookFrom, IsDeal, IsSeat}
 use Rattle.pg_pool.specs.Ways.{reached, reached_part}
 use Rattle.pg_pool.proofs.Times.{times-append, times-same, times-other, some_more}
 
-pub reached-same : (ts : List Thief) (k : ℕ) (t u : Thief) → t ≡ get_or ts k t → stealer_deque u.reach ≡ stealer_deque t.reach → view u.token ≡ view t.token → reached (set ts k u) ≡ reached ts
+pub reached-same : (ts : List OtherDeque) (k : ℕ) (t u : OtherDeque) → t ≡ get_or ts k t → stealer_deque u.reach ≡ stealer_deque t.reach → view u.token ≡ view t.token → reached (set ts k u) ≡ reached ts
 reached-same ts k t u read deque same = map-set_same reached_part ts k u t ((λ i. part_of (deque i).0 (same i)) ∙ ap reached_part read)
 
 -- what a pop or a steal tells, of the part
-part_took : (id was : DequeId) (old new : Hand) (n : ℕ) → id ≡ was → Took old (n ∷ []) new → (part_of id new ≡ with_taken (part_of was old) n) × TookPushed (with_taken (part_of was old) n)
+part_took : (id was : DequeId) (old new : DequeView) (n : ℕ) → id ≡ was → Took old (n ∷ []) new → (part_of id new ≡ with_taken (part_of was old) n) × TookPushed (with_taken (part_of was old) n)
 part_took id was old new n same took =
     let e : part_of id new ≡ with_taken (part_of was old) n = λ i. part_of (same i) (took.0 i) in
     (e, λ m. subst (λ (d : Part). times m d.taken ≤ times m d.pushed) e (took.1 m))
 
-pub reached-took : (ts : List Thief) (k : ℕ) (t u : Thief) (n : ℕ) → k < length ts → t ≡ get_or ts k t → stealer_deque u.reach ≡ stealer_deque t.reach → Took (view t.token) (n ∷ []) (view u.token)
+pub reached-took : (ts : List OtherDeque) (k : ℕ) (t u : OtherDeque) (n : ℕ) → k < length ts → t ≡ get_or ts k t → stealer_deque u.reach ≡ stealer_deque t.reach → Took (view t.token) (n ∷ []) (view u.token)
     → TookFrom (reached ts) n (reached (set ts k u))
 reached-took ts k t u n inside read same took =
     let there : reached_part t ≡ part_at (reached ts) k = ap reached_part read ∙ sym (get_or-map reached_part ts k t no_part inside) in
     let p = part_took (stealer_deque u.reach).0 (stealer_deque t.reach).0 (view t.token) (view u.token) n (λ i. (same i).0) took in record {
       place = k;
-      inside = omega (arith, inside, length-map {A = Thief} {B = Part});
+      inside = omega (arith, inside, length-map {A = OtherDeque} {B = Part});
       pushed = subst (λ (d : Part). TookPushed (with_taken d n)) there p.1;
       new_is = map-set reached_part ts k u ∙ ap (set (reached ts) k) (p.0 ∙ ap (λ (d : Part). with_taken d n) there);
     }
 
-pub took_own : (id was : DequeId) (old new : Hand) (rest : List Part) (n : ℕ) → id ≡ was → Took old (n ∷ []) new → TookFrom (part_of was old ∷ rest) n (part_of id new ∷ rest)
+pub took_own : (id was : DequeId) (old new : DequeView) (rest : List Part) (n : ℕ) → id ≡ was → Took old (n ∷ []) new → TookFrom (part_of was old ∷ rest) n (part_of id new ∷ rest)
 took_own id was old new rest n same took =
     let p = part_took id was old new n same took in record {
       place = 0;

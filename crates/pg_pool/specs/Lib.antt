@@ -1,7 +1,7 @@
 pub mod Errors
 pub mod Rounds
 pub mod Seats
-pub mod Shares
+pub mod DequeRule
 pub mod Verdicts
 pub mod Ways
 pub mod Windows

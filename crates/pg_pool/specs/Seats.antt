@@ -2,10 +2,10 @@
 use Rattle.std.specs.Prelude.{◌≡◌, ℕ, ◌+◌, ◌-◌, ◌≤◌, ◌<◌, Bool, false, not, List, [], ◌∷◌, ◌++◌}
 use Rattle.std.specs.Prelude.{All, filter, length, map, nat_lt, slice_index_or, slice_set, sum_by}
 use Rattle.std.specs.List.{list_any, range_with_len}
-use Rattle.pg_pool.specs.declared.hand.Hand.{Hand}
+use Rattle.pg_pool.specs.declared.deque_view.DequeView.{DequeView}
 use Rattle.pg_pool.specs.declared.round.Round.{Round}
 use Rattle.pg_pool.specs.Rounds.{round, IsIn, numbers, dealt, visited}
-use Rattle.pg_pool.specs.Shares.{times}
+use Rattle.pg_pool.specs.DequeRule.{times}
 
 -- which deque it is
 abbrev pub DequeId : Type 0
@@ -25,7 +25,7 @@ pub record Checker : Type 0 where
   pub round : Round
   pub parts : List Part
 
-abbrev pub part_of : DequeId → Hand → Part
+abbrev pub part_of : DequeId → DequeView → Part
 part_of deque h = record { deque = deque; pushed = h.pushed; taken = h.taken }
 
 -- a part of which nothing was taken

@@ -4,7 +4,7 @@ use Rattle.std.specs.List.{flat_map}
 use Rattle.pg_check.specs.declared.stretch.Stretch.{Stretch}
 use Rattle.pg_pool.specs.declared.round.Round.{Round}
 use Rattle.pg_pool.specs.declared.checker.Done.{Done}
-use Rattle.pg_pool.specs.declared.told.Told.{Told}
+use Rattle.pg_pool.specs.declared.numbered_verdict.NumberedVerdict.{NumberedVerdict}
 use Rattle.pg_pool.specs.Seats.{Checker, has_taken}
 use Rattle.pg_pool.specs.Verdicts.{IsTold, numbers_of}
 
@@ -17,7 +17,7 @@ IsFreshIn r c = (c.round ≡ r) × IsFresh c
 
 -- a checker tells of each number that it took, of numbers of the round alone, and what is so
 pub record HasJudged {V : Type 0} (tells : ℕ → V → Type 0) (r : Round) (c : Checker)
-    (told : List (Told V)) : Type 0 where
+    (told : List (NumberedVerdict V)) : Type 0 where
   pub round : c.round ≡ r
   pub right : All (IsTold tells r) told
   pub whole : (n : ℕ) → has_taken c n ≡ true → Contains (numbers_of told) n
@@ -26,10 +26,10 @@ pub record HasJudged {V : Type 0} (tells : ℕ → V → Type 0) (r : Round) (c 
 pub record IsDone {B V : Type 0} (keeps : B → Type 0) (tells : ℕ → V → Type 0) (r : Round)
     (d : Done B V) : Type 0 where
   pub judged : HasJudged tells r d.seat d.told.items
-  pub kept : keeps d.bench
+  pub kept : keeps d.state
 
 -- what all checkers tell
-abbrev pub all_told : {B V : Type 0} → List (Done B V) → List (Told V)
+abbrev pub all_told : {B V : Type 0} → List (Done B V) → List (NumberedVerdict V)
 all_told done = flat_map (λ d. d.told.items) done
 
 -- what a round asks: the segments of a stretch that belong to it

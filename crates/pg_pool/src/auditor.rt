@@ -8,10 +8,10 @@ ghost use Rattle.pg_pool.specs.Rounds.{AreCheckers, numbers};
 use crate::beside::NoWork;
 use crate::error::PoolError;
 use crate::gate::Gate;
+use crate::numbered_verdict::NO_VERDICT;
 use crate::round::Round;
 use crate::rounds::judge_round;
 use crate::segments::Segments;
-use crate::told::NO_VERDICT;
 use pg_check::{Memo, SegmentVerdict, Stretch};
 use std::alloc::{AllocError, Global};
 use std::marker::Model;
@@ -42,7 +42,7 @@ impl<'a> Segments for OfStretch<'a> {
     ghost use Rattle.pg_check.specs.Segments.{segment_verdict};
     ghost use Rattle.pg_check.specs.Stretches.{IsStretch};
 
-    type Bench = Memo<'a>;
+    type CheckerState = Memo<'a>;
 
     type Verdict = SegmentVerdict;
 

@@ -4,18 +4,18 @@ ghost use Rattle.pg_event.specs.Spelling.{Recorded};
 ghost use Rattle.pg_pool.specs.Work.{IsDone, IsFresh};
 
 use crate::gate::Gate;
+use crate::numbered_verdict::NumberedVerdict;
 use crate::seat::Seat;
 use crate::segments::Segments;
-use crate::told::Told;
 use std::alloc::{AllocError, Global};
 
 /// What a checker gives back: what it keeps, its seat, and what it tells of the segments that it
 /// took.
 #[derive(Drop)]
 pub(crate) struct Done<B, V> {
-    pub bench: B,
+    pub state: B,
     pub seat: Seat,
-    pub told: Vec<Told<V>>,
+    pub told: Vec<NumberedVerdict<V>>,
 }
 
 /// Takes segments and judges them, until none is found, and goes through what is left of the run.
@@ -23,14 +23,14 @@ pub(crate) struct Done<B, V> {
 pub(crate) fn work<J: Segments, G: Gate>(
     alloc: Global,
     segments: &J,
-    mut bench: J::Bench,
+    mut state: J::CheckerState,
     gate: &G,
     mut seat: Seat,
-) -> Result<Done<J::Bench, J::Verdict>, AllocError>
+) -> Result<Done<J::CheckerState, J::Verdict>, AllocError>
     requires fresh { IsFresh seat }
     requires round { seat.round ≡ J.round segments.now }
-    requires fits { (run : Recorded) × J.fits segments.now run bench }
-    ensures { (run : Recorded) → J.fits segments.now run bench → IfOk result
+    requires fits { (run : Recorded) × J.fits segments.now run state }
+    ensures { (run : Recorded) → J.fits segments.now run state → IfOk result
         (IsDone (J.ends segments.now run) (J.tells segments.now run) seat.round) }
 {
     let worker = seat.number();
@@ -42,13 +42,13 @@ pub(crate) fn work<J: Segments, G: Gate>(
             break;
         };
         gate.enter(worker, number as u64);
-        let judged = segments.judge(&mut bench, number);
+        let judged = segments.judge(&mut state, number);
         gate.leave(worker, number as u64);
-        told.push(Told {
+        told.push(NumberedVerdict {
             number,
             verdict: judged?,
         })?;
     }
-    segments.finish(&mut bench)?;
-    Ok(Done { bench, seat, told })
+    segments.finish(&mut state)?;
+    Ok(Done { state, seat, told })
 }

@@ -34,8 +34,8 @@ impl<'a, J, B> Drop for Promised<'a, J, B> {
     }
 }
 
-impl<'a, J: Segments> Promise<Result<Done<J::Bench, J::Verdict>, AllocError>>
-    for Promised<'a, J, J::Bench> {
+impl<'a, J: Segments> Promise<Result<Done<J::CheckerState, J::Verdict>, AllocError>>
+    for Promised<'a, J, J::CheckerState> {
     ghost use Rattle.std.specs.Prelude.{IfOk};
     ghost use Rattle.pg_event.specs.Spelling.{Recorded};
     ghost use Rattle.pg_pool.specs.Work.{IsDone};
@@ -77,18 +77,18 @@ pub(crate) fn run_checkers<R: Threads + Wait + Sync, J: Segments, G: Gate, B: Be
     segments: &J,
     gate: &G,
     seats: Vec<Seat>,
-    benches: Vec<J::Bench>,
+    states: Vec<J::CheckerState>,
     beside: B,
 ) -> (
-    Result<Vec<Done<J::Bench, J::Verdict>>, PoolError>,
+    Result<Vec<Done<J::CheckerState, J::Verdict>>, PoolError>,
     B::Output,
 )
     requires fresh { All (IsFreshIn (J.round segments.now)) seats.items }
-    requires len { vec_len benches ≡ vec_len seats }
-    requires fits { (run : Recorded) × All (J.fits segments.now run) benches.items }
+    requires len { vec_len states ≡ vec_len seats }
+    requires fits { (run : Recorded) × All (J.fits segments.now run) states.items }
     requires beside { B.can_run beside }
     ensures len { IfOk result.0 (λ done. vec_len done ≡ vec_len seats) }
-    ensures done { (run : Recorded) → All (J.fits segments.now run) benches.items →
+    ensures done { (run : Recorded) → All (J.fits segments.now run) states.items →
         IfOk result.0 (λ done. All (IsDone (J.ends segments.now run) (J.tells segments.now run)
         (J.round segments.now)) done.items) }
     ensures err { IfErr result.0 (λ e. e ≢ PoolError.Checkers) }
@@ -99,44 +99,44 @@ pub(crate) fn run_checkers<R: Threads + Wait + Sync, J: Segments, G: Gate, B: Be
         thread::scope_env(),
         rt,
         |scope| -> (
-            Result<Vec<Done<J::Bench, J::Verdict>>, PoolError>,
+            Result<Vec<Done<J::CheckerState, J::Verdict>>, PoolError>,
             B::Output,
         )
             requires fresh { All (IsFreshIn round) seats.items }
-            requires len { vec_len benches ≡ vec_len seats }
+            requires len { vec_len states ≡ vec_len seats }
             requires round { round ≡ J.round segments.now }
-            requires fits { (run : Recorded) × All (J.fits segments.now run) benches.items }
+            requires fits { (run : Recorded) × All (J.fits segments.now run) states.items }
             requires beside { B.can_run beside }
             ensures len { IfOk result.0 (λ done. vec_len done ≡ vec_len seats) }
             ensures done { (run : Recorded) →
-                All (J.fits segments.entry.now run) benches.items → IfOk result.0 (λ done.
+                All (J.fits segments.entry.now run) states.items → IfOk result.0 (λ done.
                 All (IsDone (J.ends segments.entry.now run) (J.tells segments.entry.now run) round)
                 done.items) }
             ensures err { IfErr result.0 (λ e. e ≢ PoolError.Checkers) }
             ensures beside { B.gives beside result.1 }
         {
             let asked = seats.len();
-            let mut waiting = benches;
+            let mut waiting = states;
             let Ok(mut handles) = Vec::with_capacity(alloc, asked) else {
                 return (Err(PoolError::Memory), beside.run());
             };
-            // Any bench does for any seat. The last comes first, as it was used last.
+            // Any state does for any seat. The last comes first, as it was used last.
             for seat in seats {
-                let Some(bench) = waiting.pop() else {
+                let Some(state) = waiting.pop() else {
                     unreachable!()
                 };
                 let promised = Promised {
                     segments,
                     round,
-                    began: Snapshot::of(&bench),
+                    began: Snapshot::of(&state),
                 };
                 let started = scope.spawn_with(
                     promised,
-                    move || -> Result<Done<J::Bench, J::Verdict>, AllocError>
+                    move || -> Result<Done<J::CheckerState, J::Verdict>, AllocError>
                         requires fresh { IsFresh seat }
                         requires round { seat.round ≡ J.round segments.now }
-                        requires some { (run : Recorded) × J.fits segments.now run bench }
-                    { work(alloc, segments, bench, gate, seat) },
+                        requires some { (run : Recorded) × J.fits segments.now run state }
+                    { work(alloc, segments, state, gate, seat) },
                 );
                 match started {
                     Ok(handle) => handles.push_reserved(handle),

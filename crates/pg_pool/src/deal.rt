@@ -5,14 +5,14 @@ ghost use Rattle.std.specs.List.{range_with_len};
 ghost use Rattle.crossbeam_deque.specs.Handles.{worker_view, worker_flavor};
 ghost use Rattle.pg_pool.specs.Rounds.{AreCheckers, round, dealt, others};
 ghost use Rattle.pg_pool.specs.Seats.{Deques, lone_seat, AreAtStart, way_to};
-ghost use Rattle.pg_pool.specs.Shares.{hand};
+ghost use Rattle.pg_pool.specs.DequeRule.{deque_view};
 ghost use Rattle.pg_pool.specs.Ways.{reached};
 
+use crate::other_deque::OtherDeque;
 use crate::round::Round;
 use crate::rule::Deque;
 use crate::seat::Seat;
 use crate::steps::{new_deque, push};
-use crate::thief::Thief;
 use std::alloc::{AllocError, Global};
 
 /// The deque of one of so many checkers, with its own numbers of those that are dealt so many at a
@@ -29,7 +29,7 @@ fn deal(
     requires some { 0 < checkers }
     ensures fifo { IfOk result (λ deque. worker_flavor deque ≡ 0) }
     ensures dealt { IfOk result (λ deque.
-        worker_view deque ≡ hand true (dealt round size checkers number) []) }
+        worker_view deque ≡ deque_view true (dealt round size checkers number) []) }
 {
     // Room for all comes at once, so that a push is refused only where memory is.
     let blocks = (round.last - round.first).div_ceil(size).div_ceil(checkers);
@@ -67,36 +67,36 @@ fn lone_seats(
 /// Adds the ways to the deques of some seats, in order.
 fn reach(
     seats: &mut Vec<Seat>,
-    thieves: &mut Vec<Thief>,
+    other_deques: &mut Vec<OtherDeque>,
     from: usize,
     to: usize,
 ) -> Result<(), AllocError>
     requires { (from ≤ to) × (to ≤ vec_len seats.old) }
     ensures same { seats.new.items ≡ seats.old.items }
-    ensures ways { OnOk result (reached thieves.new.items ≡ reached thieves.old.items
+    ensures ways { OnOk result (reached other_deques.new.items ≡ reached other_deques.old.items
         ++ map (way_to seats.old.items) (range_with_len from (to - from))) }
 {
     for owner in from..to {
         let seat = &mut seats[owner];
-        let thief = seat.lend()?;
-        thieves.push(thief)?;
+        let other_deque = seat.lend()?;
+        other_deques.push(other_deque)?;
     }
     Ok(())
 }
 
 /// The ways from the seat at a place to the deques of all others, in the order in which it is to
 /// visit them.
-fn ways(alloc: Global, seats: &mut Vec<Seat>, place: usize) -> Result<Vec<Thief>, AllocError>
+fn ways(alloc: Global, seats: &mut Vec<Seat>, place: usize) -> Result<Vec<OtherDeque>, AllocError>
     requires { place < vec_len seats.old }
     ensures same { seats.new.items ≡ seats.old.items }
-    ensures ways { IfOk result (λ thieves. reached thieves.items
+    ensures ways { IfOk result (λ other_deques. reached other_deques.items
         ≡ map (way_to seats.old.items) (others (vec_len seats.old) place)) }
 {
-    let mut thieves = Vec::new(alloc);
+    let mut other_deques = Vec::new(alloc);
     let count = seats.len();
-    reach(seats, &mut thieves, place + 1, count)?;
-    reach(seats, &mut thieves, 0, place)?;
-    Ok(thieves)
+    reach(seats, &mut other_deques, place + 1, count)?;
+    reach(seats, &mut other_deques, 0, place)?;
+    Ok(other_deques)
 }
 
 /// Deals the numbers of a round to so many checkers, so many at a time: each block of that many to
@@ -115,9 +115,9 @@ pub(crate) fn open_blocks(
 {
     let mut seats = lone_seats(alloc, round, size, checkers)?;
     for place in 0..seats.len() {
-        let thieves = ways(alloc, &mut seats, place)?;
+        let other_deques = ways(alloc, &mut seats, place)?;
         let seat = &mut seats[place];
-        seat.join(thieves);
+        seat.join(other_deques);
     }
     Ok(seats)
 }

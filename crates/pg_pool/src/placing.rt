@@ -7,12 +7,12 @@ ghost use Rattle.pg_pool.specs.Work.{all_told};
 
 use crate::checker::Done;
 use crate::gate::Gate;
+use crate::numbered_verdict::NumberedVerdict;
 use crate::segments::Segments;
-use crate::told::Told;
 use std::alloc::{AllocError, Global};
 
 /// Puts verdicts to the places of their numbers.
-pub(crate) fn place_all<V: Copy>(verdicts: &mut [V], first: u32, told: &[Told<V>])
+pub(crate) fn place_all<V: Copy>(verdicts: &mut [V], first: u32, told: &[NumberedVerdict<V>])
     requires { All (λ t. IsIn (round first (first + length verdicts.old)) t.number) told.now }
     ensures { verdicts.new ≡ placed first verdicts.old told.now }
 {
@@ -38,23 +38,23 @@ pub(crate) fn judge_left<J: Segments, G: Gate>(
     segments: &J,
     gate: &G,
     worker: u32,
-    bench: &mut J::Bench,
+    state: &mut J::CheckerState,
     left: &[u32],
-) -> Result<Vec<Told<J::Verdict>>, AllocError>
+) -> Result<Vec<NumberedVerdict<J::Verdict>>, AllocError>
     requires round { All (IsIn (J.round segments.now)) left.now }
-    requires fits { (run : Recorded) × J.fits segments.now run bench.old }
-    ensures fits { (run : Recorded) → J.fits segments.now run bench.old →
-        OnOk result (J.fits segments.now run bench.new) }
-    ensures told { (run : Recorded) → J.fits segments.now run bench.old → IfOk result
+    requires fits { (run : Recorded) × J.fits segments.now run state.old }
+    ensures fits { (run : Recorded) → J.fits segments.now run state.old →
+        OnOk result (J.fits segments.now run state.new) }
+    ensures told { (run : Recorded) → J.fits segments.now run state.old → IfOk result
         (λ told. All (IsTold (J.tells segments.now run) (J.round segments.now)) told.items) }
     ensures numbers { IfOk result (λ told. numbers_of told.items ≡ left.now) }
 {
     let mut told = Vec::new(alloc);
     for number in left {
         gate.enter(worker, *number as u64);
-        let judged = segments.judge(bench, *number);
+        let judged = segments.judge(state, *number);
         gate.leave(worker, *number as u64);
-        told.push(Told {
+        told.push(NumberedVerdict {
             number: *number,
             verdict: judged?,
         })?;

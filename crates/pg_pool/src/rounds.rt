@@ -25,7 +25,7 @@ use std::thread::Threads;
 #[derive(Drop)]
 pub struct Outcome<B, V> {
     pub verdicts: Vec<V>,
-    pub benches: Vec<B>,
+    pub states: Vec<B>,
 }
 
 /// The seats and what the checkers keep, apart.
@@ -34,20 +34,20 @@ fn apart<B: Drop, V: Drop>(
     done: Vec<Done<B, V>>,
 ) -> Result<(Vec<Seat>, Vec<B>), AllocError>
     ensures seats { IfOk result (λ r. r.0.items ≡ map (λ d. d.seat) done.items) }
-    ensures benches { IfOk result (λ r. r.1.items ≡ map (λ d. d.bench) done.items) }
+    ensures states { IfOk result (λ r. r.1.items ≡ map (λ d. d.state) done.items) }
 {
     let mut seats = Vec::new(alloc);
-    let mut benches = Vec::new(alloc);
+    let mut states = Vec::new(alloc);
     for one in done {
         let Done {
-            bench,
+            state,
             seat,
             told: _,
         } = one;
         seats.push(seat)?;
-        benches.push(bench)?;
+        states.push(state)?;
     }
-    Ok((seats, benches))
+    Ok((seats, states))
 }
 
 /// All verdicts of a round at their places: those that its checkers gave, and those of the segments
@@ -58,8 +58,8 @@ fn gather<J: Segments, G: Gate>(
     gate: &G,
     round: Round,
     worker: u32,
-    done: Vec<Done<J::Bench, J::Verdict>>,
-) -> Result<Outcome<J::Bench, J::Verdict>, AllocError>
+    done: Vec<Done<J::CheckerState, J::Verdict>>,
+) -> Result<Outcome<J::CheckerState, J::Verdict>, AllocError>
     requires ordered { round.first ≤ round.last }
     requires round { round ≡ J.round segments.now }
     requires some { 0 < vec_len done }
@@ -71,24 +71,24 @@ fn gather<J: Segments, G: Gate>(
         AreVerdicts (J.tells segments.now run) round outcome.verdicts.items) }
     ensures ends { (run : Recorded) →
         All (IsDone (J.ends segments.now run) (J.tells segments.now run) round) done.items →
-        IfOk result (λ outcome. All (J.ends segments.now run) outcome.benches.items) }
-    ensures len { IfOk result (λ outcome. vec_len outcome.benches ≡ vec_len done) }
+        IfOk result (λ outcome. All (J.ends segments.now run) outcome.states.items) }
+    ensures len { IfOk result (λ outcome. vec_len outcome.states ≡ vec_len done) }
 {
     let count = (round.last - round.first) as usize;
     let mut verdicts = Vec::from_elem(alloc, segments.blank(), count)?;
     place_done(&mut verdicts, round.first, &done);
-    let (seats, mut benches) = apart(alloc, done)?;
+    let (seats, mut states) = apart(alloc, done)?;
     let left = close_round(alloc, seats)?;
     // Each has gone through the run, so any of them may judge what was left.
-    let Some(mut bench) = benches.pop() else {
+    let Some(mut state) = states.pop() else {
         unreachable!()
     };
-    let told = judge_left(alloc, segments, gate, worker, &mut bench, &left)?;
+    let told = judge_left(alloc, segments, gate, worker, &mut state, &left)?;
     place_all(&mut verdicts, round.first, &told);
-    // Nothing is left to go through, but only this says that the bench is at the end still.
-    segments.finish(&mut bench)?;
-    benches.push_reserved(bench);
-    Ok(Outcome { verdicts, benches })
+    // Nothing is left to go through, but only this says that the state is at the end still.
+    segments.finish(&mut state)?;
+    states.push_reserved(state);
+    Ok(Outcome { verdicts, states })
 }
 
 /// How many segments that follow each other are dealt to a checker: its whole share. They have most
@@ -107,8 +107,8 @@ fn gather_done<J: Segments, G: Gate>(
     segments: &J,
     gate: &G,
     worker: u32,
-    done: Result<Vec<Done<J::Bench, J::Verdict>>, PoolError>,
-) -> Result<Outcome<J::Bench, J::Verdict>, PoolError>
+    done: Result<Vec<Done<J::CheckerState, J::Verdict>>, PoolError>,
+) -> Result<Outcome<J::CheckerState, J::Verdict>, PoolError>
     requires ordered { (J.round segments.now).first ≤ (J.round segments.now).last }
     requires some { IfOk done (λ all. 0 < vec_len all) }
     requires done { (run : Recorded) × IfOk done (λ all. All (IsDone (J.ends segments.now run)
@@ -119,9 +119,9 @@ fn gather_done<J: Segments, G: Gate>(
         AreVerdicts (J.tells segments.now run) (J.round segments.now) outcome.verdicts.items) }
     ensures ends { (run : Recorded) → IfOk done (λ all. All (IsDone (J.ends segments.now run)
         (J.tells segments.now run) (J.round segments.now)) all.items) →
-        IfOk result (λ outcome. All (J.ends segments.now run) outcome.benches.items) }
+        IfOk result (λ outcome. All (J.ends segments.now run) outcome.states.items) }
     ensures len { (n : ℕ) → IfOk done (λ all. vec_len all ≡ n) →
-        IfOk result (λ outcome. vec_len outcome.benches ≡ n) }
+        IfOk result (λ outcome. vec_len outcome.states ≡ n) }
     ensures err { IfErr result (λ e. e ≢ PoolError.Checkers) }
 {
     match done {
@@ -138,29 +138,32 @@ pub fn judge_round<R: Threads + Wait + Sync, J: Segments, G: Gate, B: Beside>(
     alloc: Global,
     segments: &J,
     gate: &G,
-    benches: Vec<J::Bench>,
+    states: Vec<J::CheckerState>,
     beside: B,
-) -> (Result<Outcome<J::Bench, J::Verdict>, PoolError>, B::Output)
+) -> (
+    Result<Outcome<J::CheckerState, J::Verdict>, PoolError>,
+    B::Output,
+)
     requires ordered { (J.round segments.now).first ≤ (J.round segments.now).last }
-    requires checkers { AreCheckers (vec_len benches) }
-    requires fits { (run : Recorded) × All (J.fits segments.now run) benches.items }
+    requires checkers { AreCheckers (vec_len states) }
+    requires fits { (run : Recorded) × All (J.fits segments.now run) states.items }
     requires beside { B.can_run beside }
-    ensures verdicts { (run : Recorded) → All (J.fits segments.now run) benches.items →
+    ensures verdicts { (run : Recorded) → All (J.fits segments.now run) states.items →
         IfOk result.0 (λ outcome.
         AreVerdicts (J.tells segments.now run) (J.round segments.now) outcome.verdicts.items) }
-    ensures ends { (run : Recorded) → All (J.fits segments.now run) benches.items →
-        IfOk result.0 (λ outcome. All (J.ends segments.now run) outcome.benches.items) }
-    ensures len { IfOk result.0 (λ outcome. vec_len outcome.benches ≡ vec_len benches) }
+    ensures ends { (run : Recorded) → All (J.fits segments.now run) states.items →
+        IfOk result.0 (λ outcome. All (J.ends segments.now run) outcome.states.items) }
+    ensures len { IfOk result.0 (λ outcome. vec_len outcome.states ≡ vec_len states) }
     ensures err { IfErr result.0 (λ e. e ≢ PoolError.Checkers) }
     ensures beside { B.gives beside result.1 }
 {
     let round = segments.round();
-    let checkers = benches.len() as u32;
+    let checkers = states.len() as u32;
     let block = block_of(round, checkers);
     let seats = match open_blocks(alloc, round, block, checkers) {
         Ok(seats) => seats,
         Err(_) => return (Err(PoolError::Memory), beside.run()),
     };
-    let (done, output) = run_checkers(rt, alloc, segments, gate, seats, benches, beside);
+    let (done, output) = run_checkers(rt, alloc, segments, gate, seats, states, beside);
     (gather_done(alloc, segments, gate, checkers, done), output)
 }

@@ -6,10 +6,10 @@ ghost use Rattle.pg_pool.specs.Rounds.{IsIn};
 ghost use Rattle.pg_pool.specs.Seats.{IsDeal, TookFrom, has_taken, part_at, way_to_part};
 ghost use Rattle.pg_pool.specs.Ways.{own_part, reached, reached_part};
 
+use crate::other_deque::OtherDeque;
 use crate::round::Round;
 use crate::rule::Deque;
 use crate::steps::{cut, pop};
-use crate::thief::Thief;
 use std::alloc::{AllocError, Global};
 use std::marker::Model;
 
@@ -20,7 +20,7 @@ pub struct Seat {
     round: Round,
     marks: Vec<bool>,
     deque: Deque,
-    thieves: Vec<Thief>,
+    other_deques: Vec<OtherDeque>,
 }
 
 impl Model for Seat {
@@ -36,21 +36,21 @@ impl Model for Seat {
     ghost view = { λ s. record {
       number = s.number;
       round = s.round;
-      parts = own_part s.deque ∷ reached s.thieves.items;
+      parts = own_part s.deque ∷ reached s.other_deques.items;
     } };
 
     ghost invariant = { λ s. (worker_flavor s.deque ≡ 0)
-        × IsSeat s.round s.marks.items (own_part s.deque ∷ reached s.thieves.items) };
+        × IsSeat s.round s.marks.items (own_part s.deque ∷ reached s.other_deques.items) };
 }
 
-/// A number from the first deque that gives one, of those that the thieves reach.
-fn steal_any(thieves: &mut Vec<Thief>) -> Option<u32>
-    ensures { MatchOption result (reached thieves.new.items ≡ reached thieves.old.items)
-        (λ n. TookFrom (reached thieves.old.items) n (reached thieves.new.items)) }
+/// A number from the first deque that gives one, of those of other checkers.
+fn steal_any(other_deques: &mut Vec<OtherDeque>) -> Option<u32>
+    ensures { MatchOption result (reached other_deques.new.items ≡ reached other_deques.old.items)
+        (λ n. TookFrom (reached other_deques.old.items) n (reached other_deques.new.items)) }
 {
-    for k in 0..thieves.len() {
-        let thief = &mut thieves[k];
-        if let Some(number) = thief.steal() {
+    for k in 0..other_deques.len() {
+        let other_deque = &mut other_deques[k];
+        if let Some(number) = other_deque.steal() {
             return Some(number);
         }
     }
@@ -58,16 +58,16 @@ fn steal_any(thieves: &mut Vec<Thief>) -> Option<u32>
 }
 
 /// A number from the own deque, or else from another.
-fn find(deque: &mut Deque, thieves: &mut Vec<Thief>) -> Option<u32>
+fn find(deque: &mut Deque, other_deques: &mut Vec<OtherDeque>) -> Option<u32>
     requires { worker_flavor deque.old ≡ 0 }
     ensures fifo { worker_flavor deque.new ≡ 0 }
-    ensures found { let old = own_part deque.old ∷ reached thieves.old.items in
-        let new = own_part deque.new ∷ reached thieves.new.items in
+    ensures found { let old = own_part deque.old ∷ reached other_deques.old.items in
+        let new = own_part deque.new ∷ reached other_deques.new.items in
         MatchOption result (new ≡ old) (λ n. TookFrom old n new) }
 {
     match pop(deque) {
         Some(number) => Some(number),
-        None => steal_any(thieves),
+        None => steal_any(other_deques),
     }
 }
 
@@ -99,7 +99,7 @@ impl Seat {
         ensures marked { IfSome result (λ n. (m : ℕ) →
             has_taken self.new m ≡ (has_taken self.old m || m == n)) }
     {
-        let number = find(&mut self.deque, &mut self.thieves)?;
+        let number = find(&mut self.deque, &mut self.other_deques)?;
         let place = (number - self.round.first) as usize;
         self.marks[place] = true;
         Some(number)
@@ -138,29 +138,29 @@ impl Seat {
             round,
             marks,
             deque,
-            thieves: Vec::new(alloc),
+            other_deques: Vec::new(alloc),
         })
     }
 
     /// A way to this seat's deque, for another seat.
-    pub(crate) fn lend(&mut self) -> Result<Thief, AllocError>
+    pub(crate) fn lend(&mut self) -> Result<OtherDeque, AllocError>
         ensures same { self.new ≡ self.old }
-        ensures way { IfOk result (λ thief.
-            reached_part thief ≡ way_to_part (part_at self.old.parts 0)) }
+        ensures way { IfOk result (λ other_deque.
+            reached_part other_deque ≡ way_to_part (part_at self.old.parts 0)) }
     {
         let reach = self.deque.stealer()?;
         let token = cut(&mut self.deque);
-        Ok(Thief { reach, token })
+        Ok(OtherDeque { reach, token })
     }
 
     /// Takes the ways to the deques of the other seats.
-    pub(crate) fn join(&mut self, thieves: Vec<Thief>)
+    pub(crate) fn join(&mut self, other_deques: Vec<OtherDeque>)
         requires alone { self.old.parts ≡ part_at self.old.parts 0 ∷ [] }
-        requires none { All (λ d. d.taken ≡ []) (reached thieves.items) }
-        requires deal { IsDeal self.old.round (self.old.parts ++ reached thieves.items) }
+        requires none { All (λ d. d.taken ≡ []) (reached other_deques.items) }
+        requires deal { IsDeal self.old.round (self.old.parts ++ reached other_deques.items) }
         ensures { self.new
-            ≡ record self.old { parts = self.old.parts ++ reached thieves.items } }
+            ≡ record self.old { parts = self.old.parts ++ reached other_deques.items } }
     {
-        self.thieves = thieves;
+        self.other_deques = other_deques;
     }
 }

@@ -13,7 +13,7 @@ pub trait Segments: Sync {
     ghost use Rattle.pg_pool.specs.declared.round.Round.{Round};
 
     /// What a checker keeps from one segment to the next.
-    type Bench: Drop + Send;
+    type CheckerState: Drop + Send;
 
     /// What is told of a segment.
     type Verdict: Copy + Drop + Send;
@@ -22,17 +22,17 @@ pub trait Segments: Sync {
     ghost round: { Self → Round };
 
     // With this, a checker judges the segments of this run.
-    ghost fits: { Self → Recorded → Self.Bench → Type 0 };
+    ghost fits: { Self → Recorded → Self.CheckerState → Type 0 };
 
     // This is what a checker keeps once it has gone through the run.
-    ghost ends: { Self → Recorded → Self.Bench → Type 0 };
+    ghost ends: { Self → Recorded → Self.CheckerState → Type 0 };
 
     // This is so of the segment of this run with this number.
     ghost tells: { Self → Recorded → ℕ → Self.Verdict → Type 0 };
 
     // Who has gone through the run may judge its segments still.
-    ghost again: { (s : Self) (run : Recorded) (bench : Self.Bench) →
-        ends s run bench → fits s run bench };
+    ghost again: { (s : Self) (run : Recorded) (state : Self.CheckerState) →
+        ends s run state → fits s run state };
 
     fn round(&self) -> Round
         ensures { result ≡ round self.now };
@@ -41,19 +41,23 @@ pub trait Segments: Sync {
     fn blank(&self) -> Self::Verdict;
 
     /// The verdict of one segment. Fails where memory is refused.
-    fn judge(&self, bench: &mut Self::Bench, number: u32) -> Result<Self::Verdict, AllocError>
+    fn judge(
+        &self,
+        state: &mut Self::CheckerState,
+        number: u32,
+    ) -> Result<Self::Verdict, AllocError>
         requires round { IsIn (round self.now) number }
-        requires fits { (run : Recorded) × fits self.now run bench.old }
-        ensures fits { (run : Recorded) → fits self.now run bench.old →
-            OnOk result (fits self.now run bench.new) }
-        ensures verdict { (run : Recorded) → fits self.now run bench.old →
+        requires fits { (run : Recorded) × fits self.now run state.old }
+        ensures fits { (run : Recorded) → fits self.now run state.old →
+            OnOk result (fits self.now run state.new) }
+        ensures verdict { (run : Recorded) → fits self.now run state.old →
             IfOk result (tells self.now run number) };
 
     /// Goes through what is left of the run. Fails where memory is refused.
-    fn finish(&self, bench: &mut Self::Bench) -> Result<(), AllocError>
-        requires { (run : Recorded) × fits self.now run bench.old }
-        ensures fits { (run : Recorded) → fits self.now run bench.old →
-            OnOk result (fits self.now run bench.new) }
-        ensures ends { (run : Recorded) → fits self.now run bench.old →
-            OnOk result (ends self.now run bench.new) };
+    fn finish(&self, state: &mut Self::CheckerState) -> Result<(), AllocError>
+        requires { (run : Recorded) × fits self.now run state.old }
+        ensures fits { (run : Recorded) → fits self.now run state.old →
+            OnOk result (fits self.now run state.new) }
+        ensures ends { (run : Recorded) → fits self.now run state.old →
+            OnOk result (ends self.now run state.new) };
 }

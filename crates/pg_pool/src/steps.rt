@@ -2,7 +2,7 @@
 ghost use Rattle.std.specs.Prelude.{◌≡◌, true, false, [], ◌∷◌, MatchOption, IfOk, OnOk};
 ghost use Rattle.crossbeam_deque.specs.Handles.{view, IsPassOf, worker_deque, stealer_deque};
 ghost use Rattle.crossbeam_deque.specs.Handles.{worker_view, worker_flavor};
-ghost use Rattle.pg_pool.specs.Shares.{hand, Pushed, Took};
+ghost use Rattle.pg_pool.specs.DequeRule.{deque_view, Pushed, Took};
 
 use crate::rule::{Cut, Deque, Push, Reach, Take, Token};
 use crossbeam_deque::Steal;
@@ -14,7 +14,7 @@ const TRIES: u32 = 64;
 /// An empty deque, whose owner takes at the front as the others do.
 pub(crate) fn new_deque(alloc: Global, capacity: usize) -> Result<Deque, AllocError>
     ensures fifo { IfOk result (λ deque. worker_flavor deque ≡ 0) }
-    ensures empty { IfOk result (λ deque. worker_view deque ≡ hand true [] []) }
+    ensures empty { IfOk result (λ deque. worker_view deque ≡ deque_view true [] []) }
 {
     Deque::fifo_as(alloc, capacity)
 }
@@ -48,9 +48,9 @@ pub(crate) fn cut(deque: &mut Deque) -> Token
     ensures same { (worker_flavor deque.new ≡ worker_flavor deque.old)
         × (worker_deque deque.new ≡ worker_deque deque.old) }
     ensures owner { let old = worker_view deque.old in
-        worker_view deque.new ≡ hand false old.pushed old.taken }
+        worker_view deque.new ≡ deque_view false old.pushed old.taken }
     ensures token { IsPassOf (worker_deque deque.old) result
-        × (view result ≡ hand false (worker_view deque.old).pushed []) }
+        × (view result ≡ deque_view false (worker_view deque.old).pushed []) }
 {
     deque.another::<Cut>()
 }

@@ -9,10 +9,10 @@ ghost use Rattle.pg_pool.specs.Windows.{HasParts, IsWindowJudged, MayJudge, roun
 use crate::beside::Beside;
 use crate::error::PoolError;
 use crate::gate::Gate;
+use crate::numbered_verdict::NO_VERDICT;
 use crate::round::Round;
 use crate::rounds::judge_round;
 use crate::segments::Segments;
-use crate::told::NO_VERDICT;
 use pg_check::{Judge, SegmentVerdict, Window};
 use std::alloc::{AllocError, Global};
 use std::marker::Model;
@@ -42,7 +42,7 @@ impl<'a> Segments for OfWindow<'a> {
     ghost use Rattle.pg_check.specs.Segments.{segment_verdict};
     ghost use Rattle.pg_pool.specs.Windows.{Fits};
 
-    type Bench = Judge;
+    type CheckerState = Judge;
 
     type Verdict = SegmentVerdict;
 
@@ -132,7 +132,7 @@ pub fn judge_window_beside<R: Threads + Wait + Sync, G: Gate, B: Beside>(
             let judged = WindowJudged {
                 round,
                 verdicts: outcome.verdicts,
-                judges: outcome.benches,
+                judges: outcome.states,
             };
             (Ok(judged), output)
         }

@@ -27,10 +27,6 @@ use Rattle.pg_reach.specs.ByOutcome.{Findings, IsPut, IsGrown, IsNoted, AreByOut
 use Rattle.pg_reach.proofs.Fresh.{freshest_of}
 
 -- what a call leaves where it does not fail
-pub on_ok : {T E : Type 0} {P Q : Type 0} (x : Result T E) → (P → Q) → OnOk x P → OnOk x Q
-on_ok (Ok a) f h = f h
-on_ok (Err e) f h = h
-
 pub on_ok_both : {T E : Type 0} {P Q R : Type 0} (x : Result T E) → (P → Q → R) → OnOk x P → OnOk x Q → OnOk x R
 on_ok_both (Ok a) f p q = f p q
 on_ok_both (Err e) f p q = p

@@ -1,6 +1,5 @@
 -- What a translation does that is read later, from an entry that is the same.
-use Rattle.std.proofs.Common.{◌≡◌, ℕ, zero, suc, ◌+◌, ◌-◌, ◌<◌, ◌≤◌, ◌==◌, ◌&&◌, ◌%◌, ◌^◌, not, Bool, true, false, List, [], ◌∷◌, length, refl, ap, sym, ◌∙◌, cond, Option, Some, None, arith}
-use Rattle.std.specs.Prelude.{slice_get}
+use Rattle.std.proofs.Common.{◌≡◌, ℕ, zero, suc, ◌+◌, ◌-◌, ◌<◌, ◌≤◌, ◌==◌, ◌&&◌, ◌%◌, ◌^◌, not, Bool, true, false, List, length, refl, ap, sym, ◌∙◌, cond, Option, Some, None, arith}
 use Rattle.std.proofs.lemmas.Bool.{not-true}
 use Rattle.pg_entry.specs.declared.Level.{Level}
 use Rattle.pg_entry.specs.declared.Kind.TheVariants as kinds
@@ -25,6 +24,7 @@ use Rattle.pg_run_of.proofs.Chains.{reading_at, pass}
 use Rattle.pg_search.proofs.Stepping.{next_control}
 use Rattle.pg_search.proofs.Survival.{each_stays}
 use Rattle.pg_search.specs.Lasts.{stays}
+use Rattle.pg_reach.proofs.Histories.{event_there}
 use Rattle.pg_reach.proofs.Lasts.{survives_later}
 
 -- an event that drops no translation of the processor leaves PGE
@@ -59,16 +59,11 @@ same_by head events p key w (suc n) low h =
     let j : ℕ = w + n in
     let next : j + 1 ≡ w + suc n = omega arith in
     let here : j < length events = omega (arith, low) in
-    let at = slice_get-within events j here in
+    let at = event_there events j here in
     let stay : (processor_of at.0 == p && must_drop_translation head.cfg.rules (control_at head events p j) at.0 key) ≡ false =
     ap (takes_out p (λ c e. must_drop_translation head.cfg.rules c e key) (control_at head events p j)) (sym at.1) ∙ not-true _ (h j (omega arith) (omega arith)) in
     ap (λ k. (control_at head events p k).pge) (sym next) ∙ ap (λ (c : Control). c.pge) (next_control head events p j at.0 at.1) ∙ leaves_pge head.cfg.rules head.cfg.m p (control_at head events p j) at.0 key stay
     ∙ same_by head events p key w n (omega (arith, low)) (λ k above lt. h k above (omega (arith, lt)))
-  where
-    slice_get-within : (xs : List Event) (i : ℕ) → i < length xs → (e : Event) × (slice_get xs i ≡ Some e)
-    slice_get-within [] i lt = absurd (omega (arith, lt))
-    slice_get-within (x ∷ xs) zero lt = (x, refl)
-    slice_get-within (x ∷ xs) (suc i) lt = slice_get-within xs i (omega (arith, lt))
 
 pub same_pge : (head : Head) (events : List Event) (p : ℕ) (key : TranslationKey) (w later to : ℕ) → w ≤ later → later ≤ to → to ≤ length events → translation_survives head events p key w to ≡ true →
     (control_at head events p later).pge ≡ (control_at head events p w).pge

@@ -76,14 +76,13 @@ pub(crate) fn is_witness(
 }
 
 impl View<'_> {
-    /// Whether a translation is global that was read at a moment in an entry whose bit 8 is this
-    /// (Intel SDM, vol. 3, 4.10.2.4).
+    /// Whether a translation is global that was read at a moment in an entry whose bit 8 is this.
     fn is_global(&self, bit: bool, read: u32) -> bool
         requires { self.now.walker.p < length self.now.run.head.processors }
         ensures { result ≡ (bit
             && (control_at self.now.run.head self.now.run.events self.now.walker.p read).pge) }
     {
-        bit && self.seen.control_at(self.walker.p, read).pge
+        self.seen.is_global(self.walker.p, bit, read)
     }
 
     /// The last number, up to the walker's, at which the event may use an entry of a level that was

@@ -9,3 +9,4 @@ pub mod Merged
 pub mod Rounds
 pub mod Ahead
 pub mod Teams
+pub mod Bad

@@ -1,9 +1,10 @@
 //! The events of a run that are kept, in little room.
 
 ghost use Rattle.std.specs.Prelude.{◌≡◌, ℕ, ◌+◌, ◌<◌, ◌≤◌, ◌^◌, [], ◌∷◌, ◌++◌, length, map, take};
-ghost use Rattle.std.specs.Prelude.{true, Some, None, IfOk, IfSome, OnOk, OnErr, slice_get};
+ghost use Rattle.std.specs.Prelude.{true, Some, None, IfOk, OnOk, OnErr, slice_get};
 ghost use Rattle.pg_event.specs.Form.{broken_rule};
 ghost use Rattle.pg_event.specs.Spelling.{IsHead};
+ghost use Rattle.pg_check.specs.Judgements.{IsRight};
 ghost use Rattle.pg_check.specs.Kept.{AreWellFormed};
 ghost use Rattle.pg_search.specs.Seen.{IsSeen};
 ghost use Rattle.pg_search.specs.Placeholders.{with_placeholder};
@@ -19,7 +20,7 @@ use crate::brief::{
 use crate::places::{Places, place_of};
 use crate::written::{Written, list_written, word_of};
 use pg_chain::Past;
-use pg_check::{Kept, failing_next, failing_where_kept};
+use pg_check::{Judgement, WalkCache, failing_next, judge_next_quickly};
 use pg_event::{Event, Header, Reason};
 use std::alloc::{AllocError, Global};
 use std::marker::Model;
@@ -37,7 +38,7 @@ pub struct KeptRun {
     places: Places,
     count: u32,
     /// Walks by which the event that comes next is judged.
-    walks: Kept,
+    walks: WalkCache,
 }
 
 impl Model for KeptRun {
@@ -114,7 +115,7 @@ impl KeptRun {
             pairs: Vec::new(alloc),
             places: Places::new(alloc),
             count: 0,
-            walks: Kept::new(alloc),
+            walks: WalkCache::new(alloc),
         })
     }
 
@@ -248,14 +249,14 @@ impl KeptRun {
         failing_next(&mut self.past, &mut self.walks, self.count, event)
     }
 
-    /// What `failing_next` gives, where a walk that was kept shows it: `None` says nothing.
+    /// Judges an event as the one that comes next, by a walk that was kept, if one stands.
     #[inline(always)]
-    pub fn failing_where_kept(&self, event: &Event) -> Option<Option<Reason>>
+    pub fn judge_next_quickly(&self, event: &Event) -> Judgement
         requires { broken_rule self.now.head event.now ≡ None }
-        ensures { IfSome result (λ found. found ≡ failing_event self.now.head self.now.events
+        ensures { IsRight result (failing_event self.now.head self.now.events
             (length self.now.events) event.now) }
     {
-        failing_where_kept(&self.past, &self.walks, self.count, event)
+        judge_next_quickly(&self.past, &self.walks, self.count, event)
     }
 
     /// Makes all lists of what was dropped, which look-ups ask where they are made and else go
@@ -296,7 +297,7 @@ impl KeptRun {
     {
         self.past.forget_from(number);
         self.briefs.retain(|brief| brief.number < number);
-        self.walks = Kept::new(self.past.alloc);
+        self.walks = WalkCache::new(self.past.alloc);
         self.count = number;
     }
 }

@@ -1,6 +1,6 @@
 //! What a search sees of a run.
 
-ghost use Rattle.std.specs.Prelude.{◌≡◌, ◌<◌, ◌≤◌, ◌^◌, false, length, IfOk};
+ghost use Rattle.std.specs.Prelude.{◌≡◌, ◌&&◌, ◌<◌, ◌≤◌, ◌^◌, false, length, IfOk};
 ghost use Rattle.pg_entry.specs.Kinds.{IsPageShift};
 ghost use Rattle.pg_event.specs.Spelling.{IsHead};
 ghost use Rattle.pg_event.specs.Values.{mem_at, control_at};
@@ -151,6 +151,15 @@ impl<'a> Seen<'a> {
         ensures root { result.root < 2 ^ 52 }
     {
         self.past.control_at(p, moment)
+    }
+
+    /// Whether a translation is global that a processor read at a moment in an entry whose bit 8 is
+    /// this: CR4.PGE has to be 1 then (Intel SDM, vol. 3, 4.10.2.4).
+    pub fn is_global(&self, p: u16, bit: bool, moment: u32) -> bool
+        requires { p < length self.now.head.processors }
+        ensures { result ≡ (bit && (control_at self.now.head self.now.events p moment).pge) }
+    {
+        bit && self.control_at(p, moment).pge
     }
 
     /// What `control_at` gives, and the moments around this one at which the registers are the

@@ -1,7 +1,7 @@
 -- What is done of several files, one after another.
 use Rattle.std.proofs.Common.{ℕ, ◌+◌, ◌<◌, max, List, Bor, map, drop, get_or, length, sym, subst}
 use Rattle.std.proofs.lemmas.List.{drop_more}
-use Rattle.pg_plan.specs.declared.request.Command.{Command}
+use Rattle.pg_arguments.specs.declared.request.Command.{Command}
 use Rattle.pg_report.specs.Changes.{Change, Stream}
 use Rattle.pg_tool.specs.Answers.{DoesEach, DoesNamed, Opening}
 

@@ -1,7 +1,7 @@
 -- What a command that reads a record does is what it does of the record.
 use Rattle.std.proofs.Common.{◌≡◌, ℕ, true}
-use Rattle.pg_plan.specs.declared.request.Command.{Command}
-use Rattle.pg_plan.specs.declared.request.Command.TheVariants.{Check, Certify, Run, RunOf, Explain, Show, Outcomes, Upgrade, Merge}
+use Rattle.pg_arguments.specs.declared.request.Command.{Command}
+use Rattle.pg_arguments.specs.declared.request.Command.TheVariants.{Check, Certify, Run, RunOf, Explain, Show, Outcomes, Upgrade, Merge}
 use Rattle.pg_answers.specs.Streams.{Streams}
 use Rattle.pg_tool.specs.Answers.{DoesCommand}
 use Rattle.pg_tool.specs.Records.{DoesOfRecord, reads_record}

@@ -2,24 +2,24 @@
 use Rattle.std.specs.Prelude.{◌≡◌, ◌⊎◌, ◌&&◌, ℕ, Bool, true, false, not, nat_eq, nat_lt, max}
 use Rattle.std.specs.Prelude.{List, [], ◌∷◌, length, Option, Some, None, codes}
 use Rattle.std.specs.Prelude.{MatchOption, map, Result, Ok, Err, string_bytes}
-use Rattle.pg_plan.specs.declared.request.Command.{Command}
-use Rattle.pg_plan.specs.declared.request.Command.TheVariants.{Check, Certify, Run, RunOf}
-use Rattle.pg_plan.specs.declared.request.Command.TheVariants.{Explain, Show, Outcomes, Upgrade}
-use Rattle.pg_plan.specs.declared.request.Command.TheVariants.{Merge}
-use Rattle.pg_plan.specs.declared.request.Invocation.{Invocation}
-use Rattle.pg_plan.specs.declared.request.Usage.{Usage}
-use Rattle.pg_plan.specs.declared.request.Usage.TheVariants.{Help, Version, Fault, Memory}
+use Rattle.pg_arguments.specs.declared.request.Command.{Command}
+use Rattle.pg_arguments.specs.declared.request.Command.TheVariants.{Check, Certify, Run}
+use Rattle.pg_arguments.specs.declared.request.Command.TheVariants.{RunOf, Explain, Show}
+use Rattle.pg_arguments.specs.declared.request.Command.TheVariants.{Outcomes, Upgrade, Merge}
+use Rattle.pg_arguments.specs.declared.request.Invocation.{Invocation}
+use Rattle.pg_arguments.specs.declared.request.Usage.{Usage}
+use Rattle.pg_arguments.specs.declared.request.Usage.TheVariants.{Help, Version, Fault, Memory}
 use Rattle.pg_report.specs.declared.error.AuditError.TheVariants.{Device}
 use Rattle.pg_report.specs.Changes.{Change, Stream, Fails, Works, Adds, AddsSome}
 use Rattle.pg_answers.specs.Refusals.{StaysSame, Tells, refusal_line, memory_line, unopened_line}
 use Rattle.pg_answers.specs.Refusals.{input_line}
 use Rattle.pg_answers.specs.Streams.{Streams}
-use Rattle.pg_ordering.specs.Merges.{Merges}
+use Rattle.pg_span_answers.specs.Merges.{Merges}
 use Rattle.pg_tool.specs.Guests.{RunsGuest}
 use Rattle.pg_tool.specs.Outputs.{Making, DoesHeard, DoesInto}
 use Rattle.pg_tool.specs.Records.{DoesOfRecord}
 use Rattle.pg_tool.specs.Remarks.{Remarks, from_on, is_input_named, up_to}
-pub use Rattle.pg_ordering.specs.Openings.{Opening, opens}
+pub use Rattle.pg_span_answers.specs.Openings.{Opening, opens}
 
 -- 0 where the text was written, and 2 where the output failed
 abbrev pub GivesText : List ℕ → Change → Change → ℕ → Type 0

@@ -3,11 +3,11 @@ use Rattle.std.specs.Prelude.{◌≡◌, ◌⊎◌, ◌&&◌, ℕ, Bool, true, f
 use Rattle.std.specs.Borrow.{Bor}
 use Rattle.std.specs.Fn.{FnReturnsAt, Shared}
 use Rattle.pg_codec.specs.declared.stream.Sink as sinks
-use Rattle.pg_plan.specs.declared.request.Command.{Command}
-use Rattle.pg_plan.specs.declared.request.Command.TheVariants.{Check, Certify, Run, RunOf}
-use Rattle.pg_plan.specs.declared.request.Command.TheVariants.{Explain, Show, Outcomes, Upgrade}
-use Rattle.pg_plan.specs.declared.request.Command.TheVariants.{Merge}
-use Rattle.pg_plan.specs.declared.request.Plan.{Plan}
+use Rattle.pg_arguments.specs.declared.request.Command.{Command}
+use Rattle.pg_arguments.specs.declared.request.Command.TheVariants.{Check, Certify, Run}
+use Rattle.pg_arguments.specs.declared.request.Command.TheVariants.{RunOf, Explain, Show}
+use Rattle.pg_arguments.specs.declared.request.Command.TheVariants.{Outcomes, Upgrade, Merge}
+use Rattle.pg_arguments.specs.declared.request.Plan.{Plan}
 use Rattle.pg_report.specs.Changes.{Change, Works, filled}
 use Rattle.pg_answers.specs.Refusals.{StaysSame, Tells, uncreated_line}
 use Rattle.pg_answers.specs.Streams.{Streams}

@@ -3,17 +3,17 @@ use Rattle.std.specs.Prelude.{◌≡◌, ◌⊎◌, ◌&&◌, not, ℕ, Bool, tr
 use Rattle.std.specs.Prelude.{List, Option, Some, None}
 use Rattle.std.specs.Prelude.{IfSome}
 use Rattle.std.specs.Io.KnownBytes.{Keeps}
-use Rattle.pg_plan.specs.declared.request.Command.{Command}
-use Rattle.pg_plan.specs.declared.request.Command.TheVariants.{Check, Certify, Run, RunOf}
-use Rattle.pg_plan.specs.declared.request.Command.TheVariants.{Explain, Show, Outcomes, Upgrade}
-use Rattle.pg_plan.specs.declared.request.Command.TheVariants.{Merge}
-use Rattle.pg_plan.specs.declared.request.CertifyOptions.{CertifyOptions}
-use Rattle.pg_plan.specs.declared.request.CheckOptions.{CheckOptions}
-use Rattle.pg_plan.specs.declared.request.ExplainOptions.{ExplainOptions}
-use Rattle.pg_plan.specs.declared.request.ShowOptions.{ShowOptions}
+use Rattle.pg_arguments.specs.declared.request.Command.{Command}
+use Rattle.pg_arguments.specs.declared.request.Command.TheVariants.{Check, Certify, Run}
+use Rattle.pg_arguments.specs.declared.request.Command.TheVariants.{RunOf, Explain, Show}
+use Rattle.pg_arguments.specs.declared.request.Command.TheVariants.{Outcomes, Upgrade, Merge}
+use Rattle.pg_arguments.specs.declared.request.CertifyOptions.{CertifyOptions}
+use Rattle.pg_arguments.specs.declared.request.CheckOptions.{CheckOptions}
+use Rattle.pg_arguments.specs.declared.request.ExplainOptions.{ExplainOptions}
+use Rattle.pg_arguments.specs.declared.request.ShowOptions.{ShowOptions}
 use Rattle.pg_event.specs.declared.selection.Selection.{Selection}
-use Rattle.pg_plan.specs.declared.request.Telling.{Telling}
-use Rattle.pg_plan.specs.declared.request.Telling.TheVariants.{First, At, All, Picture}
+use Rattle.pg_arguments.specs.declared.request.Telling.{Telling}
+use Rattle.pg_arguments.specs.declared.request.Telling.TheVariants.{First, At, All, Picture}
 use Rattle.pg_report.specs.declared.error.AuditError.TheVariants.{Device}
 use Rattle.pg_report.specs.Changes.{Change, Fails}
 use Rattle.pg_answers.specs.Firsts.{CertifiesFirst, ChecksFirst}
@@ -22,16 +22,16 @@ use Rattle.pg_answers.specs.RunOf.{ShowsRun}
 use Rattle.pg_answers.specs.Upgrades.{Upgrades}
 use Rattle.pg_answers.specs.Refusals.{StaysSame, Tells, refusal_line, spans_line}
 use Rattle.pg_answers.specs.Streams.{Streams}
-use Rattle.pg_json.specs.Tree.{json_line}
+use Rattle.pg_show_json.specs.Tree.{json_line}
 use Rattle.pg_answers.specs.declared.question.Question.{Question}
 use Rattle.pg_answers.specs.declared.question.Question.TheVariants as questions
-use Rattle.pg_json_answers.specs.Refusals.{error_json}
-use Rattle.pg_json_answers.specs.Questions.{AnswersSpans}
-use Rattle.pg_ordering.specs.Answers.{OrdersRecord}
-use Rattle.pg_ordering.specs.Shown.{ShowsSpans, TracesSpans}
-use Rattle.pg_ordering.specs.declared.asked.Asked.{Asked}
-use Rattle.pg_ordering.specs.declared.asked.Asked.TheVariants as asking
-use Rattle.pg_span_codec.specs.Versions.{says_spans}
+use Rattle.pg_show_json_answers.specs.Refusals.{error_json}
+use Rattle.pg_show_json_answers.specs.Questions.{AnswersSpans}
+use Rattle.pg_span_answers.specs.Answers.{OrdersRecord}
+use Rattle.pg_span_answers.specs.Shown.{ShowsSpans, TracesSpans}
+use Rattle.pg_span_answers.specs.declared.asked.Asked.{Asked}
+use Rattle.pg_span_answers.specs.declared.asked.Asked.TheVariants as asking
+use Rattle.pg_span_run.specs.Versions.{says_spans}
 use Rattle.pg_tool.specs.declared.format.Format.{Format}
 use Rattle.pg_tool.specs.declared.format.Format.TheVariants as formats
 use Rattle.pg_tool.specs.Rendered.{AnswersRecord}

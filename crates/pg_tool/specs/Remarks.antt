@@ -2,10 +2,10 @@
 -- the source of the input says of it is no part of any contract.
 use Rattle.std.specs.Prelude.{◌&&◌, ◌++◌, ℕ, Bool, true, false, not, nat_eq, List, Option, Some}
 use Rattle.std.specs.Prelude.{None, codes, decimal}
-use Rattle.pg_plan.specs.declared.request.Command.{Command}
-use Rattle.pg_plan.specs.declared.request.Command.TheVariants.{Check, Certify, Run, RunOf}
-use Rattle.pg_plan.specs.declared.request.Command.TheVariants.{Explain, Show, Outcomes, Upgrade}
-use Rattle.pg_plan.specs.declared.request.Command.TheVariants.{Merge}
+use Rattle.pg_arguments.specs.declared.request.Command.{Command}
+use Rattle.pg_arguments.specs.declared.request.Command.TheVariants.{Check, Certify, Run}
+use Rattle.pg_arguments.specs.declared.request.Command.TheVariants.{RunOf, Explain, Show}
+use Rattle.pg_arguments.specs.declared.request.Command.TheVariants.{Outcomes, Upgrade, Merge}
 use Rattle.pg_report.specs.Changes.{Change, Stream}
 use Rattle.pg_answers.specs.Refusals.{StaysSame, Tells}
 

@@ -2,7 +2,7 @@
 -- answer, which does not depend on the form.
 use Rattle.std.specs.Prelude.{◌≡◌, ℕ, List, Result, IfSome}
 use Rattle.pg_event.specs.Spelling.{Recorded}
-use Rattle.pg_picture.specs.Svg.{IsPicture}
+use Rattle.pg_show_picture.specs.Svg.{IsPicture}
 use Rattle.pg_report.specs.declared.error.AuditError.{AuditError}
 use Rattle.pg_report.specs.Changes.{Change}
 use Rattle.pg_answers.specs.declared.answer.Answer.{Answer}
@@ -18,8 +18,8 @@ use Rattle.pg_answers.specs.Found.{IsAbleBy}
 use Rattle.pg_answers.specs.Texts.{IsTextGivenBy}
 use Rattle.pg_answers.specs.Refusals.{TellsError}
 use Rattle.pg_answers.specs.Streams.{Streams}
-use Rattle.pg_json_answers.specs.Answers.{answer_json}
-use Rattle.pg_json_answers.specs.Refusals.{TellsJson}
+use Rattle.pg_show_json_answers.specs.Answers.{answer_json}
+use Rattle.pg_show_json_answers.specs.Refusals.{TellsJson}
 use Rattle.pg_tool.specs.declared.format.Format.{Format}
 use Rattle.pg_tool.specs.declared.format.Format.TheVariants.{Text, Json, Picture}
 

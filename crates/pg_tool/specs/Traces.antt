@@ -7,11 +7,11 @@ use Rattle.pg_answers.specs.Refusals.{TellsError}
 use Rattle.pg_answers.specs.Status.{error_status}
 use Rattle.pg_answers.specs.Streams.{Streams}
 use Rattle.pg_report.specs.declared.error.AuditError.{AuditError}
-use Rattle.pg_trace.specs.declared.judged.Traced.{Traced}
-use Rattle.pg_trace.specs.declared.judged.Traced.TheVariants.{Accepted, Rejected}
-use Rattle.pg_trace.specs.Given.{IsTraceGiven}
-use Rattle.pg_trace.specs.Judged.{IsCertifiedTrace, IsExplainedTrace}
-use Rattle.pg_trace.specs.Shown.{IsShownTrace}
+use Rattle.pg_show_trace.specs.declared.judged.Traced.{Traced}
+use Rattle.pg_show_trace.specs.declared.judged.Traced.TheVariants.{Accepted, Rejected}
+use Rattle.pg_show_trace.specs.Given.{IsTraceGiven}
+use Rattle.pg_show_trace.specs.Judged.{IsCertifiedTrace, IsExplainedTrace}
+use Rattle.pg_show_trace.specs.Shown.{IsShownTrace}
 
 abbrev pub shown_status : Result (Unit {0}) AuditError → ℕ
 shown_status (Ok x) = 0

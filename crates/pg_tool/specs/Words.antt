@@ -7,16 +7,16 @@ use Rattle.clap.specs.Simple.{subcommand_of}
 use Rattle.clap.specs.Walk.{Text}
 use Rattle.pg_answers.specs.Refusals.{StaysSame, TellsNoWords}
 use Rattle.pg_answers.specs.Streams.{Streams}
-use Rattle.pg_plan.specs.Commands.{AreTaken, Asks, AsksHelp, AsksOnly, AsksVersion, IsFault}
-use Rattle.pg_plan.specs.Commands.{IsHelp, IsVersion, NamesHelp, NamesVersion, command_line}
-use Rattle.pg_plan.specs.Commands.{files_in, logs_in, output_in}
-use Rattle.pg_plan.specs.Texts.{HasVersionText, TellsWrong}
-use Rattle.pg_plan.specs.declared.request.Invocation.{Invocation}
-use Rattle.pg_plan.specs.declared.request.Plan.{Plan}
-use Rattle.pg_plan.specs.declared.request.Usage.{Usage}
-use Rattle.pg_plan.specs.declared.request.Usage.TheVariants.{Memory}
-use Rattle.pg_plan.specs.declared.words.NoWords.{NoWords}
-use Rattle.pg_plan.specs.declared.words.NoWords.TheVariants as unread
+use Rattle.pg_arguments.specs.Commands.{AreTaken, Asks, AsksHelp, AsksOnly, AsksVersion, IsFault}
+use Rattle.pg_arguments.specs.Commands.{IsHelp, IsVersion, NamesHelp, NamesVersion, command_line}
+use Rattle.pg_arguments.specs.Commands.{files_in, logs_in, output_in}
+use Rattle.pg_arguments.specs.Texts.{HasVersionText, TellsWrong}
+use Rattle.pg_arguments.specs.declared.request.Invocation.{Invocation}
+use Rattle.pg_arguments.specs.declared.request.Plan.{Plan}
+use Rattle.pg_arguments.specs.declared.request.Usage.{Usage}
+use Rattle.pg_arguments.specs.declared.request.Usage.TheVariants.{Memory}
+use Rattle.pg_arguments.specs.declared.words.NoWords.{NoWords}
+use Rattle.pg_arguments.specs.declared.words.NoWords.TheVariants as unread
 use Rattle.pg_tool.specs.Answers.{Answers, Opening}
 use Rattle.pg_tool.specs.Outputs.{Making}
 

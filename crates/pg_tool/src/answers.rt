@@ -15,11 +15,11 @@ use crate::format::Format;
 use pg_answers::{
     Answer, Question, allowed_note, answer_record, answer_status, answer_text, tell_error,
 };
+use pg_arguments::Checkers;
 use pg_codec::{Sink, Source};
-use pg_json_answers::{answer_json, tell_error_json};
-use pg_picture::picture_text;
-use pg_plan::Checkers;
 use pg_report::{AuditError, write_text};
+use pg_show_json_answers::{answer_json, tell_error_json};
+use pg_show_picture::picture_text;
 use std::alloc::{AllocError, AllocGlobal, Global};
 use std::sync::Wait;
 use std::thread::Threads;

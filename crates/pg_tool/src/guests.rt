@@ -11,10 +11,10 @@ ghost use Rattle.pg_runner.specs.Live.{IsWant};
 ghost use Rattle.pg_tool.specs.Guests.{IsGuestRun, IsResultBy, StopsBy, TakesScript, WritesAnswer};
 
 use crate::guest_error::GuestError;
+use pg_arguments::{Checkers, RunOptions};
 use pg_codec::{IntakeError, Sink, Source, pull_all, put_all, write_record};
 use pg_event::Record;
 use pg_guest::Script;
-use pg_plan::{Checkers, RunOptions};
 use pg_pool::OpenGate;
 use pg_report::{Crew, Report};
 use pg_runner::{Observer, RunError, RunResult, run_guest_followed, run_single};

@@ -31,11 +31,11 @@ pub use followed::Followed;
 pub use guest_error::GuestError;
 pub use host::Host;
 pub use nowhere::Nowhere;
-pub use pg_event::Selection;
-pub use pg_plan::{
+pub use pg_arguments::{
     CertifyOptions, CheckOptions, Checkers, Command, ExplainOptions, Invocation, Plan, RunOptions,
     ShowOptions, Telling, Usage, plan,
 };
+pub use pg_event::Selection;
 pub use program::{pcid_audit, pcid_audit_followed, run, run_followed};
 pub use signals::Signals;
 pub use teller::Teller;

@@ -3,7 +3,7 @@
 ghost use Rattle.std.specs.Prelude.{◌≡◌, true};
 ghost use Rattle.pg_report.specs.Changes.{filled};
 ghost use Rattle.pg_answers.specs.Streams.{streams};
-ghost use Rattle.pg_ordering.specs.Answers.{OrdersRecord};
+ghost use Rattle.pg_span_answers.specs.Answers.{OrdersRecord};
 ghost use Rattle.pg_tool.specs.Records.{CertifiesBy, ChecksBy, ExplainsBy, ShowsBy, DoesPlain};
 ghost use Rattle.pg_tool.specs.Records.{explained_of, ShowsSpansBy};
 ghost use Rattle.pg_tool.specs.Records.{asked_of, told_of, RefusesSpans, DoesSpanned};
@@ -19,15 +19,15 @@ use crate::traces::{certify_trace, explain_trace, show_trace};
 use pg_answers::{
     Question, REFUSED, certify_first, check_first, name_moments, run_of, tell, tell_spans, upgrade,
 };
-use pg_codec::{Sink, Source};
-use pg_json_answers::{answer_spans_json, tell_json};
-use pg_ordering::{Asked, certify_spanned, show_spanned, trace_spanned};
-use pg_plan::{
+use pg_arguments::{
     CertifyOptions, CheckOptions, Checkers, Command, ExplainOptions, OutcomesOptions, ShowOptions,
     Telling,
 };
+use pg_codec::{Sink, Source};
 use pg_report::AuditError;
-use pg_span_codec::Peeked;
+use pg_show_json_answers::{answer_spans_json, tell_json};
+use pg_span_answers::{Asked, certify_spanned, show_spanned, trace_spanned};
+use pg_span_run::Peeked;
 use std::alloc::{AllocGlobal, Global};
 use std::sync::Wait;
 use std::thread::Threads;

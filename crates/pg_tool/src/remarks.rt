@@ -9,8 +9,8 @@ ghost use Rattle.pg_tool.specs.Remarks.{is_input_named, judges_by_moments, write
 
 use crate::signals::Signals;
 use pg_answers::{NO, REFUSED, put_number, tell_text};
+use pg_arguments::Command;
 use pg_codec::{Failed, Sink, put_all};
-use pg_plan::Command;
 
 /// Whether a command answers as JSON.
 fn writes_json(command: &Command) -> bool

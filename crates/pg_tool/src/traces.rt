@@ -3,18 +3,18 @@
 ghost use Rattle.std.specs.Prelude.{◌≡◌, ◌≢◌, Err};
 ghost use Rattle.pg_answers.specs.Streams.{streams};
 ghost use Rattle.pg_report.specs.Changes.{drawn, filled};
-ghost use Rattle.pg_trace.specs.Given.{IsTraceGiven};
-ghost use Rattle.pg_trace.specs.Judged.{IsCertifiedTrace};
-ghost use Rattle.pg_trace.specs.Shown.{IsShownTrace};
+ghost use Rattle.pg_show_trace.specs.Given.{IsTraceGiven};
+ghost use Rattle.pg_show_trace.specs.Judged.{IsCertifiedTrace};
+ghost use Rattle.pg_show_trace.specs.Shown.{IsShownTrace};
 ghost use Rattle.pg_tool.specs.Traces.{IsExplanationTrace, TracesShown, TracesCertified};
 ghost use Rattle.pg_tool.specs.Traces.{TracesExplained, shown_status, traced_status};
 
 use pg_answers::{NO, YES, error_status, is_unnamed, tell_error};
+use pg_arguments::Checkers;
 use pg_codec::{Sink, Source};
 use pg_event::Selection;
-use pg_plan::Checkers;
 use pg_report::{AuditError, read_record};
-use pg_trace::{Traced, trace_certified, trace_explained, trace_shown};
+use pg_show_trace::{Traced, trace_certified, trace_explained, trace_shown};
 use std::alloc::{AllocGlobal, Global};
 use std::sync::Wait;
 use std::thread::Threads;

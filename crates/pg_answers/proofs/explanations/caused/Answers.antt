@@ -4,7 +4,7 @@ use Rattle.pg_report.specs.declared.report.Report.{Report}
 use Rattle.pg_report.specs.declared.report.Verdict.TheVariants.{Yes, No}
 use Rattle.pg_report.specs.Text.{verdict_of}
 use Rattle.pg_answers.proofs.UpTo.{run_before}
-use Rattle.pg_answers.proofs.Bad.{bad_is_within, bad_is_unwitnessed, told_bad, told_good}
+use Rattle.pg_report.proofs.Bad.{bad_is_within, bad_is_unwitnessed, told_bad, told_good}
 use Rattle.pg_answers.proofs.explanations.caused.Goals as goal
 
 pub cause_of-requires-clause-within : goal.cause_of-requires-clause-within

@@ -1,19 +1,18 @@
-use Rattle.std.proofs.Common.{◌≡◌, ◌++◌, ◌<◌, ℕ, false, suc, ◌∷◌, List, ap, sym, ◌∙◌, drop, get_or, length, string_bytes, append-nil, drop-cons}
-use Rattle.pg_event.specs.Wants.{is_table}
+use Rattle.std.proofs.Common.{◌≡◌, ◌++◌, ◌+◌, ◌<◌, ℕ, List, ap, sym, ◌∙◌, take, get_or, length, string_bytes}
+use Rattle.std.specs.List.{flat_map}
+use Rattle.std.proofs.lemmas.List.{flat_map_more, take_more}
 use Rattle.pg_explain.specs.declared.entry.WalkEntry.{WalkEntry}
-use Rattle.pg_explain.specs.Denied.{now_walk_text, now_entry_text}
+use Rattle.pg_explain.specs.Denied.{now_entry_text}
 use Rattle.pg_explain.proofs.denial_lines.push_now_walk.Goals as goal
 
--- a walk is told no further than its first entry that is no table
-ends : (x : WalkEntry) (xs : List WalkEntry) → is_table x.kind ≡ false → now_walk_text (x ∷ xs) ≡ now_entry_text x
-ends x xs other = rw other (append-nil (now_entry_text x))
+-- the text of the first entries, with that of the next
+next_told : (xs : List WalkEntry) (i : ℕ) (d : WalkEntry) (old text new : List ℕ) → i < length xs → new ≡ text ++ now_entry_text (get_or xs i d) → text ≡ old ++ flat_map now_entry_text (take i xs)
+    → new ≡ old ++ flat_map now_entry_text (take (i + 1) xs)
+next_told xs i d old text new within wrote before =
+    wrote ∙ (ap (λ t. t ++ now_entry_text (get_or xs i d)) before
+    ∙ (flat_map_more now_entry_text old (take i xs) (get_or xs i d) ∙ ap (λ ys. old ++ flat_map now_entry_text ys) (sym (take_more xs i d within))))
 
-stopped : (walk : List WalkEntry) (i : ℕ) (d : WalkEntry) (old text new : List ℕ) → i < length walk → is_table (get_or walk i d).kind ≡ false → new ≡ text ++ now_entry_text (get_or walk i d)
-    → text ++ now_walk_text (drop i walk) ≡ old ++ now_walk_text walk → new ≡ old ++ now_walk_text walk
-stopped walk i d old text new within other wrote before =
-    wrote ∙ ap (λ t. text ++ t) (sym (ap now_walk_text (drop-cons walk i d within) ∙ ends (get_or walk i d) (drop (suc i) walk) other)) ∙ before
-
-pub returns-then-not-is_table : goal.returns-then-not-is_table
-returns-then-not-is_table c =
-    stopped c.args.walk.now c.loop-entry.entry-index _ (string_bytes c.args.text.now) (string_bytes c.loop-entry.text) _ c.loop-entry-test.true
-    (sym c.is_table.ensures ∙ c.if-not-is_table.true) c.in_ok-push_now_entry.ensures c.loop-entry.invariant
+pub loop-entry-preserved : goal.loop-entry-preserved
+loop-entry-preserved c =
+    next_told c.down_to_end-entry-items.result.now c.loop-entry.entry-index _ (string_bytes c.args.text.now) (string_bytes c.loop-entry.text) _ c.loop-entry-test.true
+    c.in_ok-push_now_entry.ensures c.loop-entry.invariant

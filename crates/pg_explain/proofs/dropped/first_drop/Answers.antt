@@ -1,7 +1,11 @@
 use Rattle.std.proofs.Common.{◌≡◌, ℕ, ◌-◌, Bool, Some, None, ap, arith, ◌∙◌, sym}
 use Rattle.pg_explain.specs.Drops.{first_from, is_dropped_at}
-use Rattle.pg_explain.proofs.Firsts.{first_from-here, first_from-next, first_drop-first}
+use Rattle.pg_explain.proofs.Firsts.{first_from-here, first_from-next, first_drop-first, first_drop-after}
 use Rattle.pg_explain.proofs.dropped.first_drop.Goals as goal
+
+pub loop-number-init : goal.loop-number-init
+loop-number-init c =
+    first_drop-after c.args.history.now.head c.args.history.now.events c.args.p c.args.key c.args.from c.args.to c.survives_to-number.result c.survives_to-number.ensures.order c.survives_to-number.ensures.survives
 
 pub loop-number-preserved : goal.loop-number-preserved
 loop-number-preserved c =

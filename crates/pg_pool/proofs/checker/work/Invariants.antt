@@ -5,7 +5,7 @@ use Rattle.pg_pool.proofs.checker.work.Given as goal
 
 abbrev pub invariant-loop : goal.invariant-loop
 invariant-loop g l = record {
-  fits : (run : Recorded) → g.J.Segments.fits l.segments run l.fn.bench → g.J.Segments.fits l.segments run l.bench;
-  judged : (run : Recorded) → g.J.Segments.fits l.segments run l.fn.bench → HasJudged (g.J.Segments.tells l.segments run) l.fn.seat.round l.seat l.told.items;
+  fits : (run : Recorded) → g.J.Segments.fits l.segments run l.fn.state → g.J.Segments.fits l.segments run l.state;
+  judged : (run : Recorded) → g.J.Segments.fits l.segments run l.fn.state → HasJudged (g.J.Segments.tells l.segments run) l.fn.seat.round l.seat l.told.items;
   round : l.seat.round ≡ l.fn.seat.round;
 }

@@ -18,7 +18,7 @@ join-requires-clause-none c =
     let s = c.loop-place.invariant.1 in
     let count : length c.in_ok-seats.seats.items ≡ n = (Seated-start c.in_ok-seats.ensures.0 r k n _ c.in_ok-seats.ensures.1).count in
     let inside : place < n = omega (arith, count, c.in_ok-seats.seats.ok.0, c.len-place-end.ensures, c.loop-place-test.true) in
-    let to = Seated-ways deques r k n place _ c.loop-place.seats.items (reached c.in_ok-thieves.thieves.items) s inside (omega (arith, s.count, c.loop-place.seats.ok.0)) c.in_ok-thieves.ensures.ways in
+    let to = Seated-ways deques r k n place _ c.loop-place.seats.items (reached c.in_ok-other_deques.other_deques.items) s inside (omega (arith, s.count, c.loop-place.seats.ok.0)) c.in_ok-other_deques.ensures.ways in
     subst (λ (l : List Part). All (λ d. d.taken ≡ []) l) (sym to) (none_taken deques r k n (others n place))
 
 pub join-requires-clause-deal : goal.join-requires-clause-deal
@@ -31,7 +31,7 @@ join-requires-clause-deal c =
     let s = c.loop-place.invariant.1 in
     let count : length c.in_ok-seats.seats.items ≡ n = (Seated-start c.in_ok-seats.ensures.0 r k n _ c.in_ok-seats.ensures.1).count in
     let inside : place < n = omega (arith, count, c.in_ok-seats.seats.ok.0, c.len-place-end.ensures, c.loop-place-test.true) in
-    let to = Seated-ways deques r k n place _ c.loop-place.seats.items (reached c.in_ok-thieves.thieves.items) s inside (omega (arith, s.count, c.loop-place.seats.ok.0)) c.in_ok-thieves.ensures.ways in
+    let to = Seated-ways deques r k n place _ c.loop-place.seats.items (reached c.in_ok-other_deques.other_deques.items) s inside (omega (arith, s.count, c.loop-place.seats.ok.0)) c.in_ok-other_deques.ensures.ways in
     let lone = Seated-here deques r k n place c.loop-place.seats.items c.ways.new.seats.items c.index_mut-seat.result.now s inside c.ways.ensures.same c.index_mut-seat.ensures.value in
     joined_deal deques r k n place _ _ lone to
 
@@ -45,7 +45,7 @@ loop-place-preserved c =
     let s = c.loop-place.invariant.1 in
     let count : length c.in_ok-seats.seats.items ≡ n = (Seated-start c.in_ok-seats.ensures.0 r k n _ c.in_ok-seats.ensures.1).count in
     let inside : place < n = omega (arith, count, c.in_ok-seats.seats.ok.0, c.len-place-end.ensures, c.loop-place-test.true) in
-    let to = Seated-ways deques r k n place _ c.loop-place.seats.items (reached c.in_ok-thieves.thieves.items) s inside (omega (arith, s.count, c.loop-place.seats.ok.0)) c.in_ok-thieves.ensures.ways in
+    let to = Seated-ways deques r k n place _ c.loop-place.seats.items (reached c.in_ok-other_deques.other_deques.items) s inside (omega (arith, s.count, c.loop-place.seats.ok.0)) c.in_ok-other_deques.ensures.ways in
     let lone = Seated-here deques r k n place c.loop-place.seats.items c.ways.new.seats.items c.index_mut-seat.result.now s inside c.ways.ensures.same c.index_mut-seat.ensures.value in
     (deques, Seated-next deques r k n place c.loop-place.seats.items c.ways.new.seats.items _ c.join.new.self _ s inside c.ways.ensures.same lone to c.join.ensures)
 

@@ -7,4 +7,4 @@ use Rattle.pg_pool.proofs.deal.reach.Given as goal
 abbrev pub invariant-loop-owner : goal.invariant-loop-owner
 invariant-loop-owner l =
     (l.seats.items ≡ l.initial.seats.items)
-    × (reached l.thieves.items ≡ reached l.initial.thieves.items ++ map (way_to l.initial.seats.items) (range_with_len l.from (l.owner - l.from)))
+    × (reached l.other_deques.items ≡ reached l.initial.other_deques.items ++ map (way_to l.initial.seats.items) (range_with_len l.from (l.owner - l.from)))

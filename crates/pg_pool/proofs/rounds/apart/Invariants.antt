@@ -5,5 +5,5 @@ use Rattle.pg_pool.proofs.rounds.apart.Given as goal
 abbrev pub invariant-loop-one : goal.invariant-loop-one
 invariant-loop-one g l = record {
   seats : map (λ d. d.seat) l.fn.done.items ≡ l.seats.items ++ map (λ d. d.seat) (into_iter_items l.one-iterator);
-  benches : map (λ d. d.bench) l.fn.done.items ≡ l.benches.items ++ map (λ d. d.bench) (into_iter_items l.one-iterator);
+  states : map (λ d. d.state) l.fn.done.items ≡ l.states.items ++ map (λ d. d.state) (into_iter_items l.one-iterator);
 }

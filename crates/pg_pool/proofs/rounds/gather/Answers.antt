@@ -6,7 +6,7 @@ use Rattle.std.specs.declared.option.Option.TheVariants.{Some}
 use Rattle.pg_event.specs.Spelling.{Recorded}
 use Rattle.pg_pool.specs.declared.checker.Done.{Done}
 use Rattle.pg_pool.specs.declared.round.Round.{Round}
-use Rattle.pg_pool.specs.declared.told.Told.{Told}
+use Rattle.pg_pool.specs.declared.numbered_verdict.NumberedVerdict.{NumberedVerdict}
 use Rattle.pg_pool.specs.Rounds.{IsIn, round}
 use Rattle.pg_pool.specs.Seats.{Checker, AreOfOneRound}
 use Rattle.pg_pool.specs.Verdicts.{AreVerdicts, IsTold}
@@ -34,15 +34,15 @@ placed_there g c = c.deref_mut-2.ensures.value ∙ read_again c.in_ok-verdicts.v
 
 -- the checker that judges what was left keeps what it should, and so do the others
 last_ends : (g : Over) (c : In-Some g) (run : Recorded) → All (IsDone (g.J.Segments.ends c.args.segments.now run) (g.J.Segments.tells c.args.segments.now run) c.args.round) c.args.done.items →
-    All (g.J.Segments.ends c.args.segments.now run) c.pop.new.self.items × g.J.Segments.ends c.args.segments.now run c.in-Some.bench
+    All (g.J.Segments.ends c.args.segments.now run) c.pop.new.self.items × g.J.Segments.ends c.args.segments.now run c.in-Some.state
 last_ends g c run all =
     let keeps = g.J.Segments.ends c.args.segments.now run in
-    All-pop keeps c.in_ok-seats.benches.items c.pop.new.self.items (Some c.in-Some.bench) c.in-Some.ensures.items
-    (subst (λ (l : List g.row.J-Bench.Denot). All keeps l) (sym c.in_ok-seats.ensures.benches) (kept_by (g.J.Segments.tells c.args.segments.now run) c.args.round keeps c.args.done.items all))
+    All-pop keeps c.in_ok-seats.states.items c.pop.new.self.items (Some c.in-Some.state) c.in-Some.ensures.items
+    (subst (λ (l : List g.row.J-CheckerState.Denot). All keeps l) (sym c.in_ok-seats.ensures.states) (kept_by (g.J.Segments.tells c.args.segments.now run) c.args.round keeps c.args.done.items all))
 
 -- and it may judge the run still
-last_fits : (g : Over) (c : In-Some g) (run : Recorded) → All (IsDone (g.J.Segments.ends c.args.segments.now run) (g.J.Segments.tells c.args.segments.now run) c.args.round) c.args.done.items → g.J.Segments.fits c.args.segments.now run c.in-Some.bench
-last_fits g c run all = g.J.Segments.again c.args.segments.now run c.in-Some.bench (last_ends g c run all).1
+last_fits : (g : Over) (c : In-Some g) (run : Recorded) → All (IsDone (g.J.Segments.ends c.args.segments.now run) (g.J.Segments.tells c.args.segments.now run) c.args.round) c.args.done.items → g.J.Segments.fits c.args.segments.now run c.in-Some.state
+last_fits g c run all = g.J.Segments.again c.args.segments.now run c.in-Some.state (last_ends g c run all).1
 
 pub place_done-requires : goal.place_done-requires
 place_done-requires g c =
@@ -50,7 +50,7 @@ place_done-requires g c =
     let tells = g.J.Segments.tells c.args.segments.now run in
     let size : length c.deref_mut.result.now ≡ c.args.round.last - c.args.round.first = omega (arith, c.deref_mut.ensures.len, c.in_ok-verdicts.ensures.len) in
     let n = length c.deref_mut.result.now in
-    subst (λ (l : List (Done g.row.J-Bench.Denot g.row.J-Verdict.Denot)). All (λ d. All (λ t. IsIn (round c.args.round.first (c.args.round.first + n)) t.number) d.told.items) l) (sym c.deref.ensures.value)
+    subst (λ (l : List (Done g.row.J-CheckerState.Denot g.row.J-Verdict.Denot)). All (λ d. All (λ t. IsIn (round c.args.round.first (c.args.round.first + n)) t.number) d.told.items) l) (sym c.deref.ensures.value)
     (done_within tells c.args.round c.args.round.first n c.args.done.items refl size c.requires.ordered
     (judged_by tells c.args.round (g.J.Segments.ends c.args.segments.now run) c.args.done.items c.requires.done.1))
 
@@ -85,7 +85,7 @@ place_all-requires g c =
     let right = c.in_ok-told.ensures.told run (last_fits g at run c.requires.done.1) in
     let n = length c.deref_mut-2.result.now in
     let size : n ≡ c.args.round.last - c.args.round.first = omega (arith, ap (λ (l : List g.row.J-Verdict.Denot). length l) (placed_there g there), placed_all g there, c.in_ok-verdicts.ensures.len) in
-    subst (λ (l : List (Told g.row.J-Verdict.Denot)). All (λ t. IsIn (round c.args.round.first (c.args.round.first + n)) t.number) l) (sym c.deref-3.ensures.value)
+    subst (λ (l : List (NumberedVerdict g.row.J-Verdict.Denot)). All (λ t. IsIn (round c.args.round.first (c.args.round.first + n)) t.number) l) (sym c.deref-3.ensures.value)
     (told_within tells c.args.round c.args.round.first n c.in_ok-told.told.items refl size c.requires.ordered (subst (λ (r : Round). All (IsTold tells r) c.in_ok-told.told.items) (sym c.requires.round) right))
 
 pub finish-requires : goal.finish-requires
@@ -110,7 +110,7 @@ returns g c =
       ends = λ run all.
           let keeps = g.J.Segments.ends c.args.segments.now run in
           let ends = last_ends g at run all in
-          subst (λ (l : List g.row.J-Bench.Denot). All keeps l) (sym c.push_reserved.ensures.items)
-          (All-push keeps c.pop.new.self.items c.finish.new.bench ends.0 (c.in_ok-finish.ensures.ends run (c.in_ok-told.ensures.fits run (last_fits g at run all))));
-      len = omega (arith, c.push_reserved.ensures.len, c.in-Some.ensures.len, c.in_ok-seats.benches.ok.0, c.args.done.ok.0, ap (λ (l : List g.row.J-Bench.Denot). length l) c.in_ok-seats.ensures.benches, length-map c.args.done.items (λ (d : Done g.row.J-Bench.Denot g.row.J-Verdict.Denot). d.bench));
+          subst (λ (l : List g.row.J-CheckerState.Denot). All keeps l) (sym c.push_reserved.ensures.items)
+          (All-push keeps c.pop.new.self.items c.finish.new.state ends.0 (c.in_ok-finish.ensures.ends run (c.in_ok-told.ensures.fits run (last_fits g at run all))));
+      len = omega (arith, c.push_reserved.ensures.len, c.in-Some.ensures.len, c.in_ok-seats.states.ok.0, c.args.done.ok.0, ap (λ (l : List g.row.J-CheckerState.Denot). length l) c.in_ok-seats.ensures.states, length-map c.args.done.items (λ (d : Done g.row.J-CheckerState.Denot g.row.J-Verdict.Denot). d.state));
     }

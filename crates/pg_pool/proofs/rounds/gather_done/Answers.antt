@@ -14,4 +14,4 @@ pub returns-in_ok-gather-in-Ok-clause-ends : goal.returns-in_ok-gather-in-Ok-cla
 returns-in_ok-gather-in-Ok-clause-ends g c = λ run all.
     let keeps = g.J.Segments.ends c.args.segments.now run in
     let tells = g.J.Segments.tells c.args.segments.now run in
-    subst (λ (r : Round). All (IsDone keeps tells r) c.in-Ok.done.items → All keeps c.in_ok-gather-in-Ok.field-0.benches.items) c.round.ensures (c.in_ok-gather-in-Ok.ensures.ends run) (rw c.in-Ok.is at all)
+    subst (λ (r : Round). All (IsDone keeps tells r) c.in-Ok.done.items → All keeps c.in_ok-gather-in-Ok.field-0.states.items) c.round.ensures (c.in_ok-gather-in-Ok.ensures.ends run) (rw c.in-Ok.is at all)

@@ -33,7 +33,7 @@ returns-clause-ends g c = λ run fits. c.gather_done.ensures.ends run (c.run_che
 
 pub returns-clause-len : goal.returns-clause-len
 returns-clause-len g c =
-    c.gather_done.ensures.len (vec_len c.args.benches)
+    c.gather_done.ensures.len (vec_len c.args.states)
     (if_one _ _ c.run_checkers-done.result.0
     (λ done is. omega (arith, is, all_seats c.round-round.result c.block_of-block.result c.len-checkers.result c.in-Ok.seats.items c.in-Ok.ensures, c.in-Ok.seats.ok.0, c.len-checkers.ensures))
     c.run_checkers-done.ensures.len)

@@ -1,5 +1,6 @@
 use Rattle.std.proofs.Common.{List, refl, sym, subst}
 use Rattle.std.specs.Prelude.{OnOk}
+use Rattle.std.proofs.lemmas.Result.{on_ok_weaker}
 use Rattle.pg_event.specs.declared.event.Outcome.{Outcome}
 use Rattle.pg_event.specs.Spelling.{Recorded}
 use Rattle.pg_reach.specs.declared.walker.Walker.{Walker}
@@ -13,7 +14,6 @@ use Rattle.pg_reach.specs.Placed.{with_outcome}
 use Rattle.pg_reach.specs.ByOutcome.{Findings, found_at, IsGrown}
 use Rattle.pg_reach.proofs.Spans.{spans_under}
 use Rattle.pg_reach.proofs.Cases.{late_page}
-use Rattle.pg_reach.proofs.EveryOutcome.{on_ok}
 use Rattle.pg_reach.proofs.every_outcome.every_own.Goals as goal
 
 pub new-requires : goal.new-requires
@@ -32,5 +32,5 @@ returns-clause-all c =
     let news : Findings = (found_at c.every_under.new.found) in
     let mine : OnOk c.every_under.result ((o : Outcome) → AreUnder r v bounds.one (with_outcome o c.args.event.now) (news o)) =
     subst (λ (w : Viewed). OnOk c.every_under.result ((o : Outcome) → AreUnder w.run w.walker bounds.one (with_outcome o w.event) (news o))) c.in_ok-view.ensures c.every_under.ensures.all in
-    on_ok c.every_under.result (λ all o. late_page r v c.page_since.result (with_outcome o c.args.event.now) (news o) c.page_since.ensures.within c.page_since.ensures.since
+    on_ok_weaker c.every_under.result (λ all o. late_page r v c.page_since.result (with_outcome o c.args.event.now) (news o) c.page_since.ensures.within c.page_since.ensures.since
     (subst (λ since. AreUnder r v since (with_outcome o c.args.event.now) (news o)) c.bounds_from-bounds.ensures.one (all o))) mine

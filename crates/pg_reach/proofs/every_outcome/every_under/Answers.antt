@@ -1,5 +1,6 @@
 use Rattle.std.proofs.Common.{ℕ, ◌+◌, min, max, List, Option, Bool, subst, sym}
 use Rattle.std.specs.List.{All}
+use Rattle.std.proofs.lemmas.Result.{on_ok_weaker}
 use Rattle.pg_entry.specs.declared.Level.{Level}
 use Rattle.pg_entry.specs.declared.Level.TheVariants.{Four, Three, Two, One}
 use Rattle.pg_event.specs.declared.event.Event.{Event}
@@ -16,7 +17,7 @@ use Rattle.pg_reach.specs.Ends.{AreRefused}
 use Rattle.pg_reach.specs.ByOutcome.{Findings, found_at, IsGrown}
 use Rattle.pg_reach.proofs.Refusals.{all_better}
 use Rattle.pg_reach.proofs.Whole.{AreWhole, all_under}
-use Rattle.pg_reach.proofs.EveryOutcome.{on_ok, on_ok_both, grown_on, well_placed, asks_placed}
+use Rattle.pg_reach.proofs.EveryOutcome.{on_ok_both, grown_on, well_placed, asks_placed}
 use Rattle.pg_reach.proofs.every_outcome.every_under.Goals as goal
 
 -- the reaches of each level
@@ -35,7 +36,7 @@ returns-clause-grown c =
     let one : Findings = (found_at c.note_reaches.new.found) in
     let two : Findings = (found_at c.note_reaches-2.new.found) in
     let three : Findings = (found_at c.note_reaches-3.new.found) in
-    on_ok c.note_reaches-4.result (λ four. grown_on r n f e (found_at c.args.found.now) three (found_at c.note_reaches-4.new.found) (grown_on r n f e (found_at c.args.found.now) two three
+    on_ok_weaker c.note_reaches-4.result (λ four. grown_on r n f e (found_at c.args.found.now) three (found_at c.note_reaches-4.new.found) (grown_on r n f e (found_at c.args.found.now) two three
     (grown_on r n f e (found_at c.args.found.now) one two c.in_ok-note_reaches.ensures.grown c.in_ok-note_reaches-2.ensures.grown) c.in_ok-note_reaches-3.ensures.grown) four) c.note_reaches-4.ensures.grown
 
 pub returns-clause-all : goal.returns-clause-all

@@ -1,7 +1,7 @@
 use Rattle.std.proofs.Common.{◌≡◌, ◌∙◌, ℕ, List, subst}
 use Rattle.std.specs.Prelude.{IfOk, string_bytes}
 use Rattle.pg_answers.specs.AllowedTexts.{allowed_note}
-use Rattle.pg_picture.specs.Svg.{IsPicture}
+use Rattle.pg_show_picture.specs.Svg.{IsPicture}
 use Rattle.pg_tool.proofs.answers.drawn.Goals as goal
 
 pub returns-in_ok-note-in-Cause : goal.returns-in_ok-note-in-Cause

@@ -1,6 +1,6 @@
 use Rattle.std.proofs.Common.{ℕ, List, Bor, map, drop}
 use Rattle.pg_report.specs.Changes.{Stream, filled}
-use Rattle.pg_span_codec.specs.contracts.peeked.PeekedSource.TheImpl as peeked
+use Rattle.pg_span_run.specs.contracts.peeked.PeekedSource.TheImpl as peeked
 use Rattle.pg_tool.specs.Answers.{DoesEach, opens}
 use Rattle.pg_tool.proofs.inputs.perform_each.Given as goal
 

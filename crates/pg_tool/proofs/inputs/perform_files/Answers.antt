@@ -1,7 +1,7 @@
 use Rattle.std.proofs.Common.{◌≡◌, ℕ, Bool, true, List, Bor, map, refl, sym, subst}
 use Rattle.pg_report.specs.Changes.{filled}
 use Rattle.pg_answers.specs.Streams.{streams}
-use Rattle.pg_span_codec.specs.contracts.peeked.PeekedSource.TheImpl as peeked
+use Rattle.pg_span_run.specs.contracts.peeked.PeekedSource.TheImpl as peeked
 use Rattle.pg_tool.specs.Answers.{DoesEach, DoesFiles, has_several, opens}
 use Rattle.pg_tool.proofs.inputs.perform_files.Goals as goal
 

@@ -1,7 +1,7 @@
 use Rattle.std.proofs.Common.{inl, inr, refl}
 use Rattle.std.proofs.lemmas.Fn.{says_at}
 use Rattle.pg_report.specs.Changes.{drawn}
-use Rattle.pg_span_codec.specs.contracts.peeked.PeekedSource.TheImpl as peeked
+use Rattle.pg_span_run.specs.contracts.peeked.PeekedSource.TheImpl as peeked
 use Rattle.pg_tool.proofs.Looking.{stays_same}
 use Rattle.pg_tool.proofs.inputs.perform_on.Goals as goal
 

@@ -1,5 +1,5 @@
 use Rattle.std.proofs.Common.{◌≡◌, Bool, true, Ok, inl, refl, ap, ◌∙◌}
-use Rattle.pg_span_codec.specs.Versions.{says_spans}
+use Rattle.pg_span_run.specs.Versions.{says_spans}
 use Rattle.pg_tool.proofs.Looking.{finds_ok}
 use Rattle.pg_tool.proofs.records.do_of_record.Goals as goal
 

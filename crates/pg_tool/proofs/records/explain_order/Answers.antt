@@ -1,7 +1,7 @@
 use Rattle.std.proofs.Common.{subst}
 use Rattle.pg_answers.specs.Streams.{streams}
-use Rattle.pg_ordering.specs.declared.asked.Asked.{Asked}
-use Rattle.pg_ordering.specs.Answers.{OrdersRecord}
+use Rattle.pg_span_answers.specs.declared.asked.Asked.{Asked}
+use Rattle.pg_span_answers.specs.Answers.{OrdersRecord}
 use Rattle.pg_tool.proofs.records.explain_order.Goals as goal
 
 pub returns : goal.returns

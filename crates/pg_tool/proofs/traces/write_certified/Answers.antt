@@ -2,9 +2,9 @@ use Rattle.std.proofs.Common.{ℕ, refl, subst}
 use Rattle.std.proofs.KnownBytes.{Keeps-refl}
 use Rattle.pg_event.specs.Spelling.{Recorded}
 use Rattle.pg_report.specs.Changes.{filled}
-use Rattle.pg_trace.specs.Given.{WritesTrace}
-use Rattle.pg_trace.specs.Judged.{IsCertifiedTrace}
-use Rattle.pg_trace.proofs.Given.{trace_of, trace_unread}
+use Rattle.pg_show_trace.specs.Given.{WritesTrace}
+use Rattle.pg_show_trace.specs.Judged.{IsCertifiedTrace}
+use Rattle.pg_show_trace.proofs.Given.{trace_of, trace_unread}
 use Rattle.pg_tool.proofs.traces.write_certified.Goals as goal
 
 pub returns-in-Ok : goal.returns-in-Ok

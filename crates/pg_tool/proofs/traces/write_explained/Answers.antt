@@ -2,10 +2,10 @@ use Rattle.std.proofs.Common.{◌≡◌, Bool, List, ℕ, true, false, refl, sym
 use Rattle.std.proofs.KnownBytes.{Keeps-refl}
 use Rattle.pg_event.specs.Spelling.{Recorded}
 use Rattle.pg_answers.specs.Unnamed.{is_unnamed}
-use Rattle.pg_trace.specs.declared.judged.Traced.{Traced}
-use Rattle.pg_trace.specs.Judged.{IsCertifiedTrace, IsExplainedTrace}
+use Rattle.pg_show_trace.specs.declared.judged.Traced.{Traced}
+use Rattle.pg_show_trace.specs.Judged.{IsCertifiedTrace, IsExplainedTrace}
 use Rattle.pg_tool.specs.Traces.{IsExplanationTrace, IsExplanationTraceOf}
-use Rattle.pg_trace.proofs.Given.{trace_of, trace_unread}
+use Rattle.pg_show_trace.proofs.Given.{trace_of, trace_unread}
 use Rattle.pg_tool.proofs.traces.write_explained.Goals as goal
 
 -- by whether the record names no moments

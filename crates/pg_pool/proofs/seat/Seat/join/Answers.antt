@@ -8,8 +8,8 @@ pub invariant_of-self : goal.invariant_of-self
 invariant_of-self c =
     let s = c.self.inside in
     let own : Part = own_part s.deque in
-    let parts : List Part = own ∷ reached s.thieves.items in
-    let more : List Part = reached c.args.thieves.items in
+    let parts : List Part = own ∷ reached s.other_deques.items in
+    let more : List Part = reached c.args.other_deques.items in
     let alone : parts ≡ own ∷ [] = rw (← c.self.view_is) at c.requires.alone in
     let deal : IsDeal s.round (parts ++ more) = rw (← c.self.view_is) at c.requires.deal in
     let joined = IsSeat-join s.round s.marks.items parts more c.self.invariant.1 c.requires.none deal in

@@ -1,11 +1,6 @@
-use Rattle.std.proofs.Common.{Result, Ok, Err}
-use Rattle.std.specs.Prelude.{OnOk}
+use Rattle.std.proofs.lemmas.Result.{on_ok_weaker}
 use Rattle.pg_reach.proofs.Rooms.{added_covered, added_room}
 use Rattle.pg_reach.proofs.reaches.Reaches.add.Goals as goal
-
-on_ok : {T E : Type 0} {P Q : Type 0} (x : Result T E) → (P → Q) → OnOk x P → OnOk x Q
-on_ok (Ok a) f h = f h
-on_ok (Err e) f h = h
 
 pub returns-then-not-make_room : goal.returns-then-not-make_room
 returns-then-not-make_room c =
@@ -13,4 +8,4 @@ returns-then-not-make_room c =
     added_covered c.args.freshest c.args.self.now c.make_room.new.self c.args.reach covered.0 covered.1
 
 pub returns : goal.returns
-returns c = on_ok c.push.result (λ same. added_room c.args.freshest c.args.self.now c.make_room.new.self c.push.new.self c.args.reach (c.make_room.ensures.room c.if-not-make_room.false) same) c.push.ensures
+returns c = on_ok_weaker c.push.result (λ same. added_room c.args.freshest c.args.self.now c.make_room.new.self c.push.new.self c.args.reach (c.make_room.ensures.room c.if-not-make_room.false) same) c.push.ensures

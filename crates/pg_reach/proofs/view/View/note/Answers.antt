@@ -1,5 +1,6 @@
 use Rattle.std.proofs.Common.{◌≡◌, true, ap, ◌∙◌, subst}
 use Rattle.std.specs.Prelude.{IfSome}
+use Rattle.std.proofs.lemmas.Result.{on_ok_weaker}
 use Rattle.pg_event.specs.declared.event.Event.{Event}
 use Rattle.pg_event.specs.Spelling.{Recorded}
 use Rattle.pg_search.specs.Freshness.{is_as_fresh}
@@ -9,11 +10,11 @@ use Rattle.pg_reach.specs.Views.{Viewed}
 use Rattle.pg_reach.specs.Placed.{with_outcome}
 use Rattle.pg_reach.specs.ByOutcome.{found_at}
 use Rattle.pg_reach.proofs.Fresh.{newer_fresher}
-use Rattle.pg_reach.proofs.EveryOutcome.{on_ok, grown_put, noted_put}
+use Rattle.pg_reach.proofs.EveryOutcome.{grown_put, noted_put}
 use Rattle.pg_reach.proofs.view.View.note.Goals as goal
 
 pub returns-then-is_witness-clause-grown : goal.returns-then-is_witness-clause-grown
-returns-then-is_witness-clause-grown c = on_ok c.put.result (λ put.
+returns-then-is_witness-clause-grown c = on_ok_weaker c.put.result (λ put.
     let r : Recorded = c.args.self.now.run in
     let v : Walker = c.args.self.now.walker in
     let e : Event = c.args.self.now.event in
@@ -27,4 +28,4 @@ returns-then-is_witness-clause-grown c = on_ok c.put.result (λ put.
     (newer_fresher v.freshest (found_at c.args.found.now c.args.outcome) c.args.moments newer)) c.put.ensures
 
 pub returns-then-is_witness-clause-noted : goal.returns-then-is_witness-clause-noted
-returns-then-is_witness-clause-noted c = on_ok c.put.result (λ put. noted_put c.args.self.now.run c.args.self.now.walker c.args.self.now.event c.args.outcome c.args.moments (found_at c.args.found.now) (found_at c.put.new.self) put) c.put.ensures
+returns-then-is_witness-clause-noted c = on_ok_weaker c.put.result (λ put. noted_put c.args.self.now.run c.args.self.now.walker c.args.self.now.event c.args.outcome c.args.moments (found_at c.args.found.now) (found_at c.put.new.self) put) c.put.ensures

@@ -1,5 +1,6 @@
 use Rattle.std.proofs.Common.{◌≡◌, ap, sym, ◌∙◌, subst}
 use Rattle.std.specs.Option.{option_map}
+use Rattle.std.proofs.lemmas.Result.{on_ok_weaker}
 use Rattle.pg_entry.specs.Kinds.{kind_of}
 use Rattle.pg_event.specs.declared.event.Event.TheVariants.{Access}
 use Rattle.pg_event.specs.declared.event.Outcome.TheVariants.{Fault}
@@ -8,11 +9,11 @@ use Rattle.pg_event.specs.Heads.{Head}
 use Rattle.pg_reach.specs.Views.{Viewed}
 use Rattle.pg_reach.specs.Given.{cause_of, code_by}
 use Rattle.pg_reach.specs.ByOutcome.{found_at}
-use Rattle.pg_reach.proofs.EveryOutcome.{on_ok, on_ok_both, grown_on, piece_noted}
+use Rattle.pg_reach.proofs.EveryOutcome.{on_ok_both, grown_on, piece_noted}
 use Rattle.pg_reach.proofs.view.View.note_piece.Goals as goal
 
 pub returns-clause-grown : goal.returns-clause-grown
-returns-clause-grown c = on_ok c.note_some-2.result (λ more. grown_on c.args.self.now.run c.args.self.now.walker.number c.args.self.now.walker.freshest c.args.self.now.event
+returns-clause-grown c = on_ok_weaker c.note_some-2.result (λ more. grown_on c.args.self.now.run c.args.self.now.walker.number c.args.self.now.walker.freshest c.args.self.now.event
     (found_at c.args.found.now) (found_at c.note_some.new.found) (found_at c.note_some-2.new.found) c.in_ok-note_some.ensures.grown more) c.note_some-2.ensures.grown
 
 pub returns-clause-none : goal.returns-clause-none

@@ -16,14 +16,14 @@ use Rattle.pg_pool.proofs.checkers.fn.run_checkers.scope.Goals as goal
 
 -- the handle of a checker's thread
 abbrev Handle : Over → Type 0
-Handle g = PromisedHandle (Result (Done g.row.J-Bench.Denot g.row.J-Verdict.Denot) AllocError) (Promised g.row.J.Denot g.row.J-Bench.Denot)
+Handle g = PromisedHandle (Result (Done g.row.J-CheckerState.Denot g.row.J-Verdict.Denot) AllocError) (Promised g.row.J.Denot g.row.J-CheckerState.Denot)
 
 pub spawn_with-started-requires-clause-runs : goal.spawn_with-started-requires-clause-runs
 spawn_with-started-requires-clause-runs g c = λ κs within.
     let some = c.requires.fits in
-    let bench = (All-pop (g.J.Segments.fits c.captures.segments.now some.0) c.loop-seat.waiting.items c.pop.new.self.items (Some c.in-Some-pop.bench) c.in-Some-pop.ensures.items (c.loop-seat.invariant.fits some.0 some.1)).1 in
+    let state = (All-pop (g.J.Segments.fits c.captures.segments.now some.0) c.loop-seat.waiting.items c.pop.new.self.items (Some c.in-Some-pop.state) c.in-Some-pop.ensures.items (c.loop-seat.invariant.fits some.0 some.1)).1 in
     let fresh = All-head (IsFreshIn c.captures.round) c.in-Some.seat _ (subst (λ (l : List Checker). All (IsFreshIn c.captures.round) l) c.in-Some.ensures.steps.0 c.loop-seat.invariant.fresh) in
-    (fresh.1, (fresh.0 ∙ c.requires.round, ((some.0, bench), search rules)))
+    (fresh.1, (fresh.0 ∙ c.requires.round, ((some.0, state), search rules)))
 
 pub loop-seat-preserved : goal.loop-seat-preserved
 loop-seat-preserved g c =
@@ -35,20 +35,20 @@ loop-seat-preserved g c =
       count = omega (arith, was.count, pushed.len, ap (λ (l : List Checker). length l) rest);
       fresh = All-rest (IsFreshIn c.captures.round) c.in-Some.seat _ _ rest was.fresh;
       waiting = omega (arith, was.waiting, c.in-Some-pop.ensures.len, ap (λ (l : List Checker). length l) rest);
-      fits = λ run all. (All-pop (g.J.Segments.fits c.captures.segments.now run) c.loop-seat.waiting.items c.pop.new.self.items (Some c.in-Some-pop.bench) c.in-Some-pop.ensures.items (was.fits run all)).0;
+      fits = λ run all. (All-pop (g.J.Segments.fits c.captures.segments.now run) c.loop-seat.waiting.items c.pop.new.self.items (Some c.in-Some-pop.state) c.in-Some-pop.ensures.items (was.fits run all)).0;
       segments = λ k d below.
           let before = was.segments k d in
-          let same = ap (λ (p : Promised g.row.J.Denot g.row.J-Bench.Denot). p.segments.now) promise in
+          let same = ap (λ (p : Promised g.row.J.Denot g.row.J-CheckerState.Denot). p.segments.now) promise in
           grind (arith, common_steps);
       round = λ k d below.
           let before = was.round k d in
-          let same = ap (λ (p : Promised g.row.J.Denot g.row.J-Bench.Denot). p.round) promise in
+          let same = ap (λ (p : Promised g.row.J.Denot g.row.J-CheckerState.Denot). p.round) promise in
           grind (arith, common_steps);
       began = λ run all k d below.
           let P : Handle g → Type 0 = λ h. g.J.Segments.fits c.captures.segments.now run h.promise.began.value in
-          let bench = (All-pop (g.J.Segments.fits c.captures.segments.now run) c.loop-seat.waiting.items c.pop.new.self.items (Some c.in-Some-pop.bench) c.in-Some-pop.ensures.items (was.fits run all)).1 in
-          let same = ap (λ (p : Promised g.row.J.Denot g.row.J-Bench.Denot). p.began.value) promise ∙ c.of.ensures in
-          let here : P c.in-Ok-started.handle = subst (g.J.Segments.fits c.captures.segments.now run) (sym same) bench in
+          let state = (All-pop (g.J.Segments.fits c.captures.segments.now run) c.loop-seat.waiting.items c.pop.new.self.items (Some c.in-Some-pop.state) c.in-Some-pop.ensures.items (was.fits run all)).1 in
+          let same = ap (λ (p : Promised g.row.J.Denot g.row.J-CheckerState.Denot). p.began.value) promise ∙ c.of.ensures in
+          let here : P c.in-Ok-started.handle = subst (g.J.Segments.fits c.captures.segments.now run) (sym same) state in
           let grown : All P c.push_reserved.new.self.items =
           subst (λ (l : List (Handle g)). All P l) (sym pushed.items)
           (All-push P c.loop-seat.handles.items c.in-Ok-started.handle (λ j e less. was.began run all j e (omega (arith, less, c.loop-seat.handles.ok.0))) here) in
@@ -59,7 +59,7 @@ pub returns-in-Ok-join_promised : goal.returns-in-Ok-join_promised
 returns-in-Ok-join_promised g c =
     let was = c.loop-seat.invariant in
     record {
-      len = if_both _ _ _ c.settled.result (λ all lower items. omega (arith, lower, ap length items, length-map {B = Result (Done g.row.J-Bench.Denot g.row.J-Verdict.Denot) AllocError} all.items (λ d. Ok d), all.ok.0, c.in-Ok-join_promised.done.ok.0, c.in-Ok-join_promised.ensures.len, c.loop-seat.invariant.count, c.len-asked.ensures)) c.settled.ensures.len c.settled.ensures.items;
+      len = if_both _ _ _ c.settled.result (λ all lower items. omega (arith, lower, ap length items, length-map {B = Result (Done g.row.J-CheckerState.Denot g.row.J-Verdict.Denot) AllocError} all.items (λ d. Ok d), all.ok.0, c.in-Ok-join_promised.done.ok.0, c.in-Ok-join_promised.ensures.len, c.loop-seat.invariant.count, c.len-asked.ensures)) c.settled.ensures.len c.settled.ensures.items;
       done = λ run fits.
           if_one _ _ c.settled.result
           (λ all items.

@@ -1,0 +1,9 @@
+use Rattle.pg_arguments.proofs.lines.check_line.Goals as goal
+
+pub returns : goal.returns
+returns c =
+    let checkers = c.with_option-line.ensures _ _ c.new_line-line.ensures c.checkers_option.ensures in
+    let all = c.with_option-line-2.ensures _ _ checkers c.switch.ensures in
+    let first = c.with_option-line-3.ensures _ _ all c.switch-2.ensures in
+    let json = c.with_option-line-4.ensures _ _ first c.switch-3.ensures in
+    c.with_files.ensures _ json

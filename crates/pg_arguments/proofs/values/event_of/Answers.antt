@@ -1,0 +1,9 @@
+use Rattle.pg_arguments.specs.Values.{IsNumberIn}
+use Rattle.pg_arguments.proofs.Parses.{given, refused}
+use Rattle.pg_arguments.proofs.values.event_of.Goals as goal
+
+pub returns-in_err-number_in-in-Some : goal.returns-in_err-number_in-in-Some
+returns-in_err-number_in-in-Some c = rw (c.in-Some.is, c.from_residual.ensures) (refused IsNumberIn c.in-Some.text.now c.in_err-number_in-in-Some.ensures)
+
+pub returns-in_ok-number_in-in-Some : goal.returns-in_ok-number_in-in-Some
+returns-in_ok-number_in-in-Some c = rw c.in-Some.is (given IsNumberIn c.in-Some.text.now c.in_ok-number_in-in-Some.field-0 c.in_ok-number_in-in-Some.ensures)

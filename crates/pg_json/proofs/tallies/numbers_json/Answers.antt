@@ -1,7 +1,0 @@
-use Rattle.std.proofs.Common.{◌∙◌, sym, map}
-use Rattle.pg_json.proofs.Lists.{fused}
-use Rattle.pg_json.specs.Tree.{count}
-use Rattle.pg_json.proofs.tallies.numbers_json.Goals as goal
-
-pub returns : goal.returns
-returns c = c.list_of.ensures (map count c.args.told.now) (c.in_ok-values.ensures ∙ sym (fused count c.args.told.now))

@@ -1,7 +1,0 @@
-use Rattle.std.proofs.Common.{◌≡◌, take, string_bytes}
-use Rattle.std.specs.List.{flat_map}
-use Rattle.pg_ordering.specs.Texts.{edge_line}
-use Rattle.pg_ordering.proofs.texts.edge_lines.Given as goal
-
-abbrev pub invariant-loop-edge : goal.invariant-loop-edge
-invariant-loop-edge l = string_bytes l.text ≡ flat_map edge_line (take l.edge-index l.edges)

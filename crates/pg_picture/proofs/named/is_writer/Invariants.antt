@@ -1,7 +1,0 @@
-use Rattle.std.proofs.Common.{◌≡◌, drop}
-use Rattle.pg_picture.specs.Named.{is_writer}
-use Rattle.pg_picture.proofs.named.is_writer.Given as goal
-
-abbrev pub invariant-loop-entry : goal.invariant-loop-entry
-invariant-loop-entry l =
-    is_writer (drop l.entry-index l.walk) l.number ≡ is_writer l.walk l.number

@@ -1,4 +1,0 @@
-use Rattle.pg_plan.proofs.lines.most_option.Goals as goal
-
-pub returns : goal.returns
-returns c = c.also_named.ensures _ c.most_number.ensures

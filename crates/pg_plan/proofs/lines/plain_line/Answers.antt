@@ -1,4 +1,0 @@
-use Rattle.pg_plan.proofs.lines.plain_line.Goals as goal
-
-pub returns : goal.returns
-returns c = c.with_progress.ensures _ c.new_line.ensures

@@ -1,4 +1,0 @@
-use Rattle.pg_plan.proofs.lines.with_files.Goals as goal
-
-pub returns : goal.returns
-returns c = λ app line. c.with_option.ensures _ _ (c.with_told.ensures _ line) c.files_option.ensures

@@ -1,5 +1,0 @@
-use Rattle.pg_relaxed.proofs.Witness.{without_a_witness}
-use Rattle.pg_relaxed.proofs.laws.without_a_witness.Goals as goal
-
-pub returns : goal.returns
-returns c = without_a_witness

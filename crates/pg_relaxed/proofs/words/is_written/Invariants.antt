@@ -1,8 +1,0 @@
-use Rattle.std.proofs.Common.{take}
-use Rattle.pg_machine.specs.Machine.{IsIn}
-use Rattle.pg_relaxed.specs.declared.words.Written.{Written}
-use Rattle.pg_relaxed.specs.Memory.{IsPast}
-use Rattle.pg_relaxed.proofs.words.is_written.Given as goal
-
-abbrev pub invariant-loop-written : goal.invariant-loop-written
-invariant-loop-written l = (w : Written) → IsIn w (take l.written-index l.writes) → IsPast l.run l.slot w.number → ⊥

@@ -1,0 +1,4 @@
+mod Parts
+mod Items
+pub mod Reading
+pub mod Given

@@ -1,5 +1,0 @@
-use Rattle.pg_span_codec.proofs.Readings.{reading_of_spelling}
-use Rattle.pg_span_codec.proofs.laws.reading_of_spanned_spelling.Goals as goal
-
-pub returns : goal.returns
-returns c = reading_of_spelling

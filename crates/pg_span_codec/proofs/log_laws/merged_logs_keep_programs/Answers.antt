@@ -1,5 +1,0 @@
-use Rattle.pg_span_codec.proofs.Kept.{merged_logs_keep_programs}
-use Rattle.pg_span_codec.proofs.log_laws.merged_logs_keep_programs.Goals as goal
-
-pub returns : goal.returns
-returns c = merged_logs_keep_programs

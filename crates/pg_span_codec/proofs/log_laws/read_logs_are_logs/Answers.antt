@@ -1,5 +1,0 @@
-use Rattle.pg_span_codec.proofs.ReadLogs.{read_logs_are_logs}
-use Rattle.pg_span_codec.proofs.log_laws.read_logs_are_logs.Goals as goal
-
-pub returns : goal.returns
-returns c = read_logs_are_logs

@@ -1,5 +1,0 @@
-use Rattle.pg_span_codec.proofs.Kept.{spans_are_as_stamped}
-use Rattle.pg_span_codec.proofs.log_laws.spans_are_as_stamped.Goals as goal
-
-pub returns : goal.returns
-returns c = spans_are_as_stamped

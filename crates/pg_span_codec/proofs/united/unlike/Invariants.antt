@@ -1,7 +1,0 @@
-use Rattle.std.proofs.Common.{◌<◌, ℕ, get_or}
-use Rattle.pg_span_codec.specs.Logs.{Logged}
-use Rattle.pg_span_codec.specs.Parts.{IsLike}
-use Rattle.pg_span_codec.proofs.united.unlike.Given as goal
-
-abbrev pub invariant-loop-i : goal.invariant-loop-i
-invariant-loop-i l = (k : ℕ) (d : Logged) → k < l.i → IsLike l.header (get_or l.logs k d)

@@ -1,0 +1,8 @@
+use Rattle.std.proofs.Common.{◌≡◌, ◌<◌, take}
+use Rattle.pg_machine.specs.Machine.{IsIn}
+use Rattle.pg_span_refute.specs.declared.edge.Edge.{Edge}
+use Rattle.pg_span_refute.specs.Memory.{IsOwn}
+use Rattle.pg_span_refute.proofs.slot.is_supposed_past.Given as goal
+
+abbrev pub invariant-loop-edge : goal.invariant-loop-edge
+invariant-loop-edge l = (e : Edge) → IsIn e (take l.edge-index l.slot.edges.now) → (e.first ≡ l.j) → e.second < l.slot.next → IsOwn l.run.events l.slot.p e.second → ⊥

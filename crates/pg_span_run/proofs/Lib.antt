@@ -1,0 +1,27 @@
+pub mod Places
+pub mod Found
+pub mod Bounds
+pub mod Orders
+pub mod Ends
+mod Musts
+pub mod Steps
+pub mod Binds
+pub mod Peeking
+pub mod TimedEvents
+pub mod Runs
+pub mod Segments
+pub mod Headers
+pub mod Readings
+pub mod Zips
+pub mod Pushes
+pub mod Lists
+pub mod EndStamps
+pub mod Elements
+pub mod Keys
+pub mod Starts
+pub mod LogReadings
+pub mod LogRuns
+pub mod Whole
+pub mod Kept
+pub mod ReadLogs
+pub mod Held

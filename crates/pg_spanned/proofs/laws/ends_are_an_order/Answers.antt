@@ -1,5 +1,0 @@
-use Rattle.pg_spanned.proofs.Ends.{ends_are_an_order}
-use Rattle.pg_spanned.proofs.laws.ends_are_an_order.Goals as goal
-
-pub returns : goal.returns
-returns c = ends_are_an_order

@@ -1,5 +1,0 @@
-use Rattle.pg_spanned.proofs.Ends.{no_other_order}
-use Rattle.pg_spanned.proofs.laws.no_other_order.Goals as goal
-
-pub returns : goal.returns
-returns c = no_other_order

@@ -1,5 +1,0 @@
-mod Parts
-mod Items
-mod Bad
-pub mod Reading
-pub mod Given
