@@ -1,11 +1,10 @@
 -- What is answered of a record with one order, whatever the format is in which it is written.
 use Rattle.std.specs.Prelude.{◌≡◌, ◌<◌, ℕ, List, [], ◌∷◌, length, take, Option, Some, None}
 use Rattle.std.specs.Prelude.{Result, Ok, Err, slice_get, Bool, true, false, nat_le, ◌≤◌, ◌⊎◌}
-use Rattle.pg_entry.specs.declared.Rules.{Rules}
 use Rattle.pg_event.specs.declared.event.Event.{Event}
 use Rattle.pg_event.specs.declared.event.Reason.{Reason}
 use Rattle.pg_event.specs.Heads.{Head}
-use Rattle.pg_event.specs.Spelling.{Recorded, held_to, segment_count}
+use Rattle.pg_event.specs.Spelling.{Recorded, segment_count}
 use Rattle.pg_event.specs.Witness.{first_bad}
 use Rattle.pg_search.specs.Law.{RunBeginsWith}
 use Rattle.pg_certify.specs.Certified.{CanBeCertified, IsDenied, HasRunButMoments}
@@ -200,10 +199,6 @@ IsAnswer (ExplainAt n) r x = IsExplanationAt n r x
 IsAnswer (ExplainAll most) r x = AreCauses most r x
 IsAnswer (Show selection) r x = x ≡ Events r selection
 IsAnswer (questions.Outcomes asked most) r x = IsOutcomesAnswer asked most r x
-
--- and where its processors are held to these rules
-abbrev pub IsAnswerUnder : Rules → Question → Recorded → Answer → Type 0
-IsAnswerUnder rules question r x = IsAnswer question (held_to rules r) x
 
 -- the event that an answer of `certify` names, if it is no
 abbrev pub denied_in : Answer → Option ℕ

@@ -30,7 +30,6 @@ mod shown;
 mod statuses;
 mod summaries;
 mod text;
-mod under;
 mod unnamed;
 mod upgrader;
 mod words;
@@ -61,7 +60,6 @@ pub use statuses::{
     MEMORY, NO, REFUSED, UNOPENED, USAGE, YES, error_status, status_of, verdict_status,
 };
 pub use text::answer_text;
-pub use under::answer_under;
 pub use unnamed::is_unnamed;
 pub use upgrader::upgrade;
 pub use words::tell_no_words;
