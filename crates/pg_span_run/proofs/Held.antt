@@ -1,7 +1,6 @@
 -- A run whose processors are held to other rules.
-use Rattle.std.proofs.Common.{◌≡◌, ℕ}
 use Rattle.pg_entry.specs.declared.Rules.{Rules}
-use Rattle.pg_event.specs.Heads.{Head, with_rules}
+use Rattle.pg_event.specs.Heads.{with_rules}
 use Rattle.pg_event.proofs.FewerRules.{head_held, well_held}
 use Rattle.pg_span_run.specs.Orders.{Spanned}
 use Rattle.pg_span_run.specs.Spanned.{IsSpanned}
