@@ -18,7 +18,7 @@ returns-in-Some c =
     let found = c.in-Some.ensures.lookup in
     let at : slice_get events j ≡ Some e = ap (λ (es : List Event). slice_get es j) (sym c.events.ensures.events) ∙ slice_get-get_or c.events.result.now j e (found.3.0) ∙ ap (λ (x : Event). Some x) (sym found.1) in
     c.takes_out.ensures
-    ∙ ap (λ (h : Head). takes_out c.args.p (must_drop h.cfg.rules c.args.key) c.control_at.result (Some e)) c.header.ensures.header
+    ∙ ap (λ (h : Head). takes_out c.args.p (must_drop h.cfg.rules c.args.key) c.control_at.result (Some e)) (c.behind-history.view_is ∙ c.header.ensures.header)
     ∙ ap (λ (d : Control). takes_out c.args.p (must_drop head.cfg.rules c.args.key) d (Some e)) c.control_at.ensures.control
     ∙ ap (λ (o : Option Event). takes_out c.args.p (must_drop head.cfg.rules c.args.key) (control_at head events c.args.p j) o) (sym at)
 
