@@ -8,6 +8,7 @@ pub mod Bad
 pub mod Explained
 pub mod Named
 pub mod Accounted
+pub mod Ahead
 pub mod Told
 pub mod Audited
 pub mod OneDenial

@@ -42,6 +42,9 @@ pub(crate) trait Judging {
         ensures failing { IfSome result (λ found. found
             ≡ failing_event (run self.old).head (run self.old).events i event.now) };
 
+    /// So many changes of a word are looked at before all moments are searched.
+    fn most_changes(&self) -> usize;
+
     /// Moments that witness the event, by a search of all that there are, or `None` where none do.
     fn search(
         &mut self,
@@ -99,6 +102,10 @@ impl<'a> Judging for Whole<'a> {
         self.events
     }
 
+    fn most_changes(&self) -> usize {
+        8
+    }
+
     #[inline(always)]
     fn failing(&mut self, i: u32, event: &Event) -> Option<Reason> {
         failing(&mut self.memo, i, event)
@@ -132,6 +139,12 @@ impl Judging for KeptRun {
 
     fn events(&self) -> Events<'_> {
         Events::Kept(self)
+    }
+
+    // One of several checkers often lacks what another found long before, and a search costs as
+    // much as thousands of changes.
+    fn most_changes(&self) -> usize {
+        64
     }
 
     #[inline(always)]
