@@ -28,7 +28,7 @@ abbrev pub left_in : Control → Event → ℕ → Bool → Level → ℕ → Sl
 left_in c e pcid global level number s = record {
   structure =
       if must_drop_structure all_rules c e
-          (record { pcid = pcid; level = level; prefix = number })
+      (record { pcid = pcid; level = level; prefix = number })
       then None else s.structure;
   translation =
       if must_drop_translation all_rules c e (record {

@@ -264,8 +264,12 @@ impl Caches {
         let control = self.control;
         self.tables
             .retain(|held| may_stay(cfg.rules, control, event, la, held.get()));
-        self.translations
-            .retain(|held| !must_drop_translation(cfg.rules, control, event, held.get().key));
+        self.translations.retain(|held| !must_drop_translation(
+            cfg.rules,
+            control,
+            event,
+            held.get().key,
+        ));
         self.control = controlled(cfg.m, processor_of(event), control, event);
     }
 }

@@ -55,14 +55,7 @@ pub(crate) fn keeps_global(
 }
 
 /// Whether an event of processor `p` must drop each translation of the address that is not global.
-fn drops_by(
-    rules: Rules,
-    control: Control,
-    p: u16,
-    pcid: u16,
-    la: u64,
-    event: &Event,
-) -> bool
+fn drops_by(rules: Rules, control: Control, p: u16, pcid: u16, la: u64, event: &Event) -> bool
     ensures { result ≡ drops_by rules control p pcid la event.now }
 {
     processor_of(event) == p && drops_page(rules, control, pcid, la, event)
