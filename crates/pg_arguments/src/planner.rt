@@ -23,8 +23,8 @@ ghost use Rattle.pg_arguments.specs.declared.request.Plan.{Plan as Planned};
 use crate::checkers::Checkers;
 use crate::lines::{
     ALL, BYTES, CERTIFY, CHECK, CHECKERS, CPU, ERROR, EVENT, EXPLAIN, FILE, FIRST, FROM, JSON,
-    LIMIT, LOADS, LOG, MERGE, MOST, ORDER, OUTCOMES, OUTPUT, PAGE, PROGRESS, QUIET, RULES, RUN, RUN_OF,
-    SHOW, SINGLE, SVG, TO, TRACE, UPGRADE, WORD, command_line,
+    LIMIT, LOADS, LOG, MERGE, MOST, ORDER, OUTCOMES, OUTPUT, PAGE, PROGRESS, QUIET, RULES, RUN,
+    RUN_OF, SHOW, SINGLE, SVG, TO, TRACE, UPGRADE, WORD, command_line,
 };
 use crate::request::{
     CertifyOptions, CheckOptions, Command, ExplainOptions, Invocation, OutcomesOptions, Plan,
