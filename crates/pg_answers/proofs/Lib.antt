@@ -7,6 +7,7 @@ pub mod Finding
 pub mod Explained
 pub mod Named
 pub mod Accounted
+pub mod Ahead
 pub mod Told
 pub mod Audited
 pub mod OneDenial

@@ -8,7 +8,7 @@ ghost use Rattle.pg_report.specs.Changes.{drawn};
 ghost use Rattle.pg_answers.specs.Answers.{IsAnswer, IsCertificate, denied_in, yes_report};
 ghost use Rattle.pg_answers.specs.Found.{IsFound, MayFail};
 
-use crate::accounts::read_account;
+use crate::accounts::{read_account, read_account_by};
 use crate::answer::Answer;
 use crate::denials::{denial_by, denial_in};
 use crate::question::Question;
@@ -19,6 +19,7 @@ use pg_certify::{
 };
 use pg_check::History;
 use pg_codec::Source;
+use pg_arguments::Checkers;
 use pg_report::{AuditError, Report, Verdict, read_record};
 use std::alloc::{AllocError, AllocGlobal, Global};
 use std::sync::Wait;
@@ -100,17 +101,18 @@ pub(crate) fn certify_whole<T: AllocGlobal + Threads + Wait + Sync>(
     Ok(certificate_of(rt.alloc(), history, denied)?)
 }
 
-/// Reads a record, and has so many checkers certify it.
+/// Has so many checkers certify a record as it is read, of which there are several.
 fn certify_by_checkers<T: AllocGlobal + Threads + Wait + Sync, R: Source>(
     rt: &T,
     checkers: Checkers,
     input: &mut R,
 ) -> Result<Answer, AuditError>
+    requires { checkers ≢ 1 }
     ensures { IsFound (IsAnswer Question.Certify) checkers
         (drawn R.Source input.old input.new) result }
 {
-    match read_record(rt.alloc(), input) {
-        Ok(history) => certify_whole(rt, checkers, &history),
+    match read_account_by(rt, rt.alloc(), checkers.number() as u32, input) {
+        Ok(team) => Ok(certificate_by(rt.alloc(), team.account())?),
         Err(error) => Err(error),
     }
 }
@@ -127,8 +129,8 @@ fn certify_as_read<R: Source>(alloc: Global, input: &mut R) -> Result<Answer, Au
 
 /// Whether some run of the machine has the events of the record that `input` has left. If no run
 /// has them, also why: the least event that no moments witness, what its processor would have read
-/// then, and when the event would last have been witnessed. One checker certifies a record as it is
-/// read; several share the events of one that was read whole.
+/// then, and when the event would last have been witnessed. The record is certified as it is read:
+/// by one checker segment by segment, and by several window by window.
 pub(crate) fn certify<T: AllocGlobal + Threads + Wait + Sync, R: Source>(
     rt: &T,
     checkers: Checkers,

@@ -132,6 +132,12 @@ change_whole a head events n e kept whole h at there changes is =
     let here : 0 + n ≡ n = omega arith in
     is ∙ ap (λ ns. whole_of ns n kept) h.named ∙ subst (λ k. whole_of (named_from 0 events) k kept ≡ e) here (whole_from 0 events n e kept there changes bared)
 
+-- the events of a window are kept whole too
+pub names_come : (old now : List Numbered) (before more : List Event) (first : ℕ) → old ≡ named_from 0 before → first ≡ length before → now ≡ old ++ named_from first more → now ≡ named_from 0 (before ++ more)
+names_come old now before more first was at is =
+    let here : first ≡ 0 + length before = omega (arith, at) in
+    is ∙ ap (λ ns. ns ++ named_from first more) was ∙ ap (λ n. named_from 0 before ++ named_from n more) here ∙ sym (named_all 0 before more)
+
 -- the event that is denied
 
 least_same : (head : Head) (events : List Event) (m n : ℕ) → IsDenied head events m → IsDenied head events n → m ≡ n

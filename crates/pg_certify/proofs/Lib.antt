@@ -5,3 +5,5 @@ mod Segments
 pub mod Windows
 mod Accounts
 pub mod Named
+mod Benches
+mod Teams

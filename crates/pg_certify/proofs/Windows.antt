@@ -1,8 +1,9 @@
 -- A run that is certified as it is read: more events say nothing of those before, and an event is
 -- witnessed where it is by what is kept of them.
-use Rattle.std.proofs.Common.{◌≡◌, ℕ, zero, suc, ◌+◌, ◌-◌, ◌^◌, ◌<◌, ◌≤◌, List, [], ◌∷◌, ◌++◌, length, refl, ap, sym, ◌∙◌, subst, arith, inl, inr, Option, Some, None, drop, take, take_all, map, true}
+use Rattle.std.proofs.Common.{◌≡◌, ℕ, zero, suc, ◌+◌, ◌-◌, ◌^◌, ◌<◌, ◌≤◌, List, [], ◌∷◌, ◌++◌, length, refl, ap, sym, ◌∙◌, subst, arith, inl, inr, Option, Some, None, drop, take, take_all, map, get_or, true}
 use Rattle.std.specs.Prelude.{slice_get, IfSome, IfNone}
 use Rattle.std.proofs.lemmas.Bool.{cases_lt}
+use Rattle.std.proofs.lemmas.Option.{slice_get-get_or}
 use Rattle.std.proofs.lemmas.List.{append_assoc, length-append, length-map, length-take, map-append, take-append-drop, take-append-le}
 use Rattle.pg_event.specs.declared.event.Event.{Event}
 use Rattle.pg_event.specs.Heads.{Head}
@@ -28,6 +29,10 @@ there_more (x ∷ xs) more (suc n) lt = there_more xs more n (omega (arith, lt))
 
 some_same : (x y : Event) → Some x ≡ Some y → x ≡ y
 some_same x y h = cc
+
+-- the event at a place
+pub here : (xs : List Event) (i : ℕ) (x : Event) → i < length xs → x ≡ get_or xs i x → slice_get xs i ≡ Some x
+here xs i x lt is = slice_get-get_or xs i x lt ∙ ap (λ (y : Event). Some y) (sym is)
 
 -- more events say nothing of those before
 
@@ -91,7 +96,7 @@ kept_still kept before more is = is ∙ ap (map kept_of) (sym (take-append-le (l
 -- events that come one by one
 
 -- what is kept of a window, in two parts
-split_window : (xs window : List Event) (i : ℕ) → xs ++ map kept_of window ≡ (xs ++ map kept_of (take i window)) ++ map kept_of (drop i window)
+pub split_window : (xs window : List Event) (i : ℕ) → xs ++ map kept_of window ≡ (xs ++ map kept_of (take i window)) ++ map kept_of (drop i window)
 split_window xs window i =
     ap (λ w. xs ++ map kept_of w) (sym (take-append-drop i window))
     ∙ ap (λ ys. xs ++ ys) (map-append kept_of (take i window) (drop i window))

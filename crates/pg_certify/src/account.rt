@@ -1,12 +1,13 @@
 //! A run that is certified as it is read, and what the explanation of a no needs beside.
 
 ghost use Rattle.std.specs.Prelude.{◌≡◌, ◌+◌, ◌-◌, ◌<◌, ◌≤◌, ◌^◌, [], ◌++◌, List, length};
-ghost use Rattle.std.specs.Prelude.{true, Some, IfOk, IfSome, OnOk, slice_get};
+ghost use Rattle.std.specs.Prelude.{true, Some, None, IfOk, IfSome, OnOk, slice_get};
 ghost use Rattle.pg_event.specs.declared.event.Event.{Event};
 ghost use Rattle.pg_event.specs.Heads.{Head};
 ghost use Rattle.pg_event.specs.Spelling.{IsHead};
 ghost use Rattle.pg_search.specs.Changes.{changes_something};
-ghost use Rattle.pg_certify.specs.Accounts.{IsAccount, MayComeNext};
+ghost use Rattle.pg_certify.specs.Accounts.{Account, IsAccount, MayComeNext};
+ghost use Rattle.pg_certify.specs.Windows.{IsCertifying};
 
 use crate::certifying::Certifying;
 use crate::named_events::{Numbered, note_named, whole_of};
@@ -77,6 +78,44 @@ impl StreamingCertifier {
             self.event = event_of(self.certifying.settle(), first, events);
         }
         Ok(())
+    }
+
+    /// What is known of the run, and the events that are kept whole, apart.
+    pub(crate) fn apart(self) -> (Certifying, Vec<Numbered>)
+        ensures { (result.0 ≡ self.findings) × (result.1.items ≡ self.named) }
+    {
+        let StreamingCertifier {
+            certifying,
+            named,
+            event: _,
+        } = self;
+        (certifying, named)
+    }
+
+    /// The account of a run by what is known of it once a window was certified, the events that
+    /// were kept whole before, and how many came before, none of which is denied. Fails where
+    /// memory is refused.
+    pub(crate) fn after(
+        certifying: Certifying,
+        named: Vec<Numbered>,
+        first: u64,
+        events: &[Event],
+    ) -> Result<StreamingCertifier, AllocError>
+        requires { first + length events.now < 2 ^ 32 }
+        ensures findings { IfOk result (λ now. now.findings ≡ certifying) }
+        ensures account { (a : Account) (head : Head) (before : List Event) →
+            a.findings.denied ≡ None → a.findings.count ≡ first → a.named ≡ named.items →
+            IsAccount a head before → IsCertifying certifying head (before ++ events.now) →
+            IfOk result (λ now. IsAccount now head (before ++ events.now)) }
+    {
+        let mut all = named;
+        note_named(&mut all, first as u32, events)?;
+        let event = event_of(certifying.settle(), first, events);
+        Ok(StreamingCertifier {
+            certifying,
+            named: all,
+            event,
+        })
     }
 
     /// What is known of the run.

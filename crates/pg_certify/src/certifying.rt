@@ -75,6 +75,41 @@ impl Certifying {
         self.count += count as u64;
     }
 
+    /// What judges its events, and how many have come, apart.
+    pub(crate) fn apart(self) -> (Certifier<KeptRun>, u64)
+        ensures { (result.0 ≡ self.kept) × (result.1 ≡ self.count) }
+    {
+        let Certifying {
+            certifier,
+            count,
+            denied: _,
+        } = self;
+        (certifier, count)
+    }
+
+    /// What is known of a run by what keeps its events, how many came before a window, where none
+    /// of them is denied, the place of the first event of the window that no moments witness, and
+    /// how many the window has.
+    pub(crate) fn after(
+        certifier: Certifier<KeptRun>,
+        before: u64,
+        found: Option<usize>,
+        count: usize,
+    ) -> Certifying
+        requires place { IfSome found (λ place. place < count) }
+        requires count { before + count < 2 ^ 32 }
+        ensures { result ≡ after_window
+            (record { kept = certifier; count = before; denied = None }) found count }
+    {
+        let mut certifying = Certifying {
+            certifier,
+            count: before,
+            denied: None,
+        };
+        certifying.take(found, count);
+        certifying
+    }
+
     /// Judges the events that come next, where none before them is denied.
     fn judge(&mut self, window: &[Event]) -> Result<(), AllocError>
         requires well { AreWellFormed self.old.kept.head window.now }

@@ -11,9 +11,6 @@ use crate::judging::Judging;
 use crate::walk::{Walk, is_global, walk_by};
 use pg_event::{Event, Moments};
 
-/// So many changes of a word are looked at.
-const MOST_CHANGES: usize = 8;
-
 /// How far back walks at earlier moments are tried.
 #[derive(Clone, Copy)]
 struct Reach {
@@ -142,7 +139,7 @@ impl<J: Judging + Drop> Certifier<J> {
             (AreWitness self.old.head self.old.events case.i event.now) }
     {
         let mut change = case.i;
-        for _ in 0..MOST_CHANGES {
+        for _ in 0..self.judging.most_changes() {
             change = self
                 .judging
                 .seen()

@@ -10,6 +10,7 @@ use crate::walk::and_then;
 use pg_event::{Moments, Reason, bits_from};
 use std::alloc::Global;
 use std::collections::HashMap;
+use std::mem;
 
 /// For whom moments serve.
 #[derive(Clone, Copy)]
@@ -35,8 +36,35 @@ pub(crate) struct Guesses {
     rare: [bool; 8],
     has_rare: bool,
     has_global: bool,
+    /// What was found since others were told, where there are others.
+    news: Option<Vec<Found>>,
+    /// The number that was said where it took last what others found.
+    told: u64,
     /// When frames were mapped, from the first search of all moments on.
     mapped: Option<Mapped>,
+}
+
+/// What was found for a page or for tables, to be told to others.
+#[derive(Clone, Copy)]
+pub(crate) struct Found {
+    key: u64,
+    moments: [u32; 4],
+    /// What `kind_of` tells of a page, or `OF_TABLES`.
+    kind: usize,
+}
+
+/// Of tables, and not of a page.
+const OF_TABLES: usize = 8;
+
+/// The last of the moments that were found, or `NO_MOMENT` where none were.
+fn last_in(moments: [u32; 4]) -> u32 {
+    let [first, second, third, fourth] = moments;
+    for moment in [fourth, third, second] {
+        if moment != NO_MOMENT {
+            return moment;
+        }
+    }
+    first
 }
 
 /// A part of the linear address space, told by the upper bits of an address: a page by its size, or
@@ -134,6 +162,8 @@ impl Guesses {
             rare: [false; 8],
             has_rare: false,
             has_global: false,
+            news: None,
+            told: 0,
             mapped: None,
         }
     }
@@ -254,6 +284,7 @@ impl Guesses {
     pub(crate) fn note_tables(&mut self, p: u16, pcid: u16, la: u64, moments: &Moments) {
         let key = key_of(p, Scope::Tables(pcid), Part::Of1G, la);
         self.pages.keep(key, filled(moments));
+        self.add_news(key, filled(moments), OF_TABLES);
     }
 
     /// Keeps moments that witness an event for the page that serves it.
@@ -261,7 +292,50 @@ impl Guesses {
         let part = page_by(moments.len());
         self.rare[kind_of(scope, part)] = true;
         self.has_rare = self.has_rare || kind_of(scope, part) > 0;
-        self.pages.keep(key_of(p, scope, part, la), filled(moments));
+        let key = key_of(p, scope, part, la);
+        self.pages.keep(key, filled(moments));
+        self.add_news(key, filled(moments), kind_of(scope, part));
+    }
+
+    /// Keeps what was found for others, where there are others.
+    fn add_news(&mut self, key: u64, moments: [u32; 4], kind: usize) {
+        if let Some(news) = &mut self.news {
+            let found = Found { key, moments, kind };
+            let _refused = news.push(found).is_err();
+        }
+    }
+
+    /// What was found since this was asked last, for others: from the first time on it is kept.
+    pub(crate) fn news(&mut self, alloc: Global) -> Vec<Found> {
+        match mem::replace(&mut self.news, Some(Vec::new(alloc))) {
+            Some(news) => news,
+            None => Vec::new(alloc),
+        }
+    }
+
+    /// Takes what another found, unless what is kept for the page is as new.
+    fn take(&mut self, found: Found) {
+        let kept = last_in(self.pages.get(found.key));
+        if kept == NO_MOMENT || kept < last_in(found.moments) {
+            self.pages.keep(found.key, found.moments);
+        }
+        if let Some(has_any) = self.rare.get_mut(found.kind) {
+            *has_any = true;
+            self.has_rare = self.has_rare || found.kind > 0;
+            self.has_global = self.has_global || found.kind >= 4;
+        }
+    }
+
+    /// Takes what others found, once for each number that is said.
+    pub(crate) fn be_told(&mut self, number: u64, news: &[Vec<Found>]) {
+        if self.told != number {
+            self.told = number;
+            for one in news {
+                for found in one {
+                    self.take(*found);
+                }
+            }
+        }
     }
 
     /// Keeps moments that witness an event under a PCID for the page that serves it.

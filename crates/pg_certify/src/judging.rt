@@ -43,6 +43,9 @@ pub(crate) trait Judging {
         ensures right { IsRight result
             (failing_event (run self.old).head (run self.old).events i event.now) };
 
+    /// So many changes of a word are looked at before all moments are searched.
+    fn most_changes(&self) -> usize;
+
     /// Moments that witness the event, by a search of all that there are, or `None` where none do.
     fn search(
         &mut self,
@@ -100,6 +103,10 @@ impl<'a> Judging for Whole<'a> {
         self.events
     }
 
+    fn most_changes(&self) -> usize {
+        8
+    }
+
     #[inline(always)]
     fn failing(&mut self, i: u32, event: &Event) -> Option<Reason> {
         failing(&mut self.memo, i, event)
@@ -133,6 +140,12 @@ impl Judging for KeptRun {
 
     fn events(&self) -> Events<'_> {
         Events::Kept(self)
+    }
+
+    // One of several checkers often lacks what another found long before, and a search costs as
+    // much as thousands of changes.
+    fn most_changes(&self) -> usize {
+        64
     }
 
     #[inline(always)]

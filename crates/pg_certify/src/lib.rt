@@ -5,6 +5,7 @@
 #![tactic(auto)]
 
 mod account;
+mod bench;
 mod case;
 mod certifier;
 mod certifying;
@@ -19,6 +20,7 @@ mod next_event;
 mod pages;
 mod recent_lookups;
 mod segment_checkers;
+mod team;
 mod walk;
 mod whole;
 mod window;
@@ -31,4 +33,5 @@ pub use laws::{
 };
 pub use named_events::{Numbered, is_placeholder};
 pub use segment_checkers::{CertifyError, first_denied_by};
+pub use team::CertifyingTeam;
 pub use whole::{certify, first_denied};

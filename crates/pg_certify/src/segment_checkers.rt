@@ -41,7 +41,7 @@ impl From<AllocError> for CertifyError {
 }
 
 /// Why a round came to no answer.
-fn certify_error(error: PoolError) -> CertifyError
+pub(crate) fn certify_error(error: PoolError) -> CertifyError
     requires { error ≢ PoolError.Checkers }
 {
     match error {

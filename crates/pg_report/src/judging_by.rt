@@ -32,7 +32,7 @@ const FIRST_WINDOW: usize = 1 << 12;
 const MOST_WINDOW: usize = 1 << 16;
 
 /// How many events the next window asks for: twice as many as the one that is judged meanwhile has.
-fn next_size(judged: usize) -> usize
+pub fn next_size(judged: usize) -> usize
     ensures some { 0 < result }
     ensures most { result ≤ 2 ^ 16 }
 {
@@ -82,13 +82,13 @@ fn read_window<R: Source>(
 
 /// The window that comes next, to be read while another is judged.
 #[derive(Drop)]
-struct Next<'a, 'b, 'c, R> {
-    alloc: Global,
-    reader: &'a mut RecordReader,
-    source: &'b mut R,
-    window: &'c mut Vec<Event>,
+pub struct Next<'a, 'b, 'c, R> {
+    pub alloc: Global,
+    pub reader: &'a mut RecordReader,
+    pub source: &'b mut R,
+    pub window: &'c mut Vec<Event>,
     /// It is full once it has so many events.
-    size: usize,
+    pub size: usize,
 }
 
 impl<'a, 'b, 'c, R: Source> Beside for Next<'a, 'b, 'c, R> {
@@ -139,7 +139,7 @@ impl<'a, 'b, 'c, R: Source> Beside for Next<'a, 'b, 'c, R> {
 }
 
 /// Does nothing, but this use of a reference that came back ties it to the parameter that was lent.
-fn take_back<T>(lent: &mut T)
+pub fn take_back<T>(lent: &mut T)
     ensures { lent.new ≡ lent.old }
 {}
 

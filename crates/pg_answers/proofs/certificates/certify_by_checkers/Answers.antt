@@ -1,10 +1,7 @@
 use Rattle.pg_answers.specs.declared.question.Question.TheVariants.{Certify}
 use Rattle.pg_answers.specs.Answers.{IsAnswer}
-use Rattle.pg_answers.proofs.Finding.{answered, not_read}
+use Rattle.pg_answers.proofs.Ahead.{several_find}
 use Rattle.pg_answers.proofs.certificates.certify_by_checkers.Goals as goal
 
-pub returns-in-Ok : goal.returns-in-Ok
-returns-in-Ok g c = answered (IsAnswer Certify) c.args.checkers _ c.in-Ok.history c.in-Ok.ensures.reads c.in-Ok.ensures.device c.certify_whole.result c.certify_whole.ensures.ok c.certify_whole.ensures.err
-
 pub returns-in-Err : goal.returns-in-Err
-returns-in-Err g c = not_read (IsAnswer Certify) c.args.checkers _ c.in-Err.error c.in-Err.ensures.reads c.in-Err.ensures.device c.in-Err.ensures.alone
+returns-in-Err g c = record { finds = several_find (IsAnswer Certify) c.args.checkers c.requires _ c.in-Err.error c.in-Err.ensures.reads; device = c.in-Err.ensures.device }

@@ -4,7 +4,7 @@ use Rattle.pg_event.specs.declared.event.Event.{Event}
 use Rattle.pg_certify.specs.declared.named_events.Numbered.{Numbered}
 use Rattle.pg_certify.specs.Windows.{IsCertifying}
 use Rattle.pg_certify.specs.Accounts.{Account, IsAccount, MayComeNext, named_from}
-use Rattle.pg_certify.proofs.Accounts.{named_all, denied_now, denied_stays}
+use Rattle.pg_certify.proofs.Accounts.{denied_now, denied_stays, names_come}
 use Rattle.pg_certify.proofs.account.StreamingCertifier.window.Goals as goal
 
 none_of : (o : Option ℕ) → is_none o ≡ true → o ≡ None
@@ -14,11 +14,6 @@ none_of (Some n) h = absurd (cc)
 some_of : (o : Option ℕ) → is_none o ≡ false → (n : ℕ) × (o ≡ Some n)
 some_of None h = absurd (cc)
 some_of (Some n) h = (n, refl)
-
-names_come : (old now : List Numbered) (before more : List Event) (first : ℕ) → old ≡ named_from 0 before → first ≡ length before → now ≡ old ++ named_from first more → now ≡ named_from 0 (before ++ more)
-names_come old now before more first was at is =
-    let here : first ≡ 0 + length before = omega (arith, at) in
-    is ∙ ap (λ ns. ns ++ named_from first more) was ∙ ap (λ n. named_from 0 before ++ named_from n more) here ∙ sym (named_all 0 before more)
 
 pub note_named-requires : goal.note_named-requires
 note_named-requires c =
