@@ -1,6 +1,6 @@
 //! Records that are certified as they are read.
 
-ghost use Rattle.std.specs.Prelude.{◌≡◌, ◌≢◌, ◌+◌, [], ℕ, List, Option, Err, OnOk, IfErr, IfSome};
+ghost use Rattle.std.specs.Prelude.{◌≡◌, ◌≢◌, ◌+◌, ◌<◌, [], ℕ, List, Option, Err, OnOk, IfErr, IfSome};
 ghost use Rattle.pg_event.specs.declared.event.Event.{Event};
 ghost use Rattle.pg_codec.specs.declared.stage.Stage.TheVariants.{Start};
 ghost use Rattle.pg_codec.specs.Streams.{FailsWithDevice};
@@ -14,7 +14,7 @@ ghost use Rattle.pg_answers.specs.Accounts.{GoesAhead, IsAhead, IsLastAhead, Rea
 use pg_certify::{CertifyError, CertifyingTeam, StreamingCertifier};
 use pg_codec::{RecordReader, Source};
 use pg_event::{Event, Version};
-use pg_report::{AuditError, MOST_CHUNKS, Next, audit_error, next_size, take_back};
+use pg_report::{AuditError, MOST_CHUNKS, Next, audit_error, take_back};
 use std::alloc::Global;
 use std::mem;
 use std::sync::Wait;
@@ -99,6 +99,21 @@ pub(crate) fn stop_of(error: CertifyError) -> AuditError
         CertifyError::Memory => AuditError::Memory,
         CertifyError::Thread => AuditError::Thread,
     }
+}
+
+/// The first window is full once it has so many events. Nothing is certified while it is read, so
+/// it is short.
+const FIRST_WINDOW: usize = 1 << 12;
+
+/// No window asks for more events. Checkers tell each other what they found between windows, so
+/// these are shorter than those of `check`.
+const MOST_WINDOW: usize = 1 << 15;
+
+/// How many events the next window asks for: twice as many as the one before it has.
+fn next_size(before: usize) -> usize
+    ensures { 0 < result }
+{
+    before.saturating_mul(2).max(FIRST_WINDOW).min(MOST_WINDOW)
 }
 
 /// Has the window that waits certified, and reads the next beside.

@@ -287,6 +287,12 @@ window_passed f new head before more n may some is c =
     } in
     subst (λ (q : Findings). IsCertifying q head all) (sym (is ∙ ap (λ (d : Option ℕ). record { kept = f.kept; count = f.count + length more; denied = d }) some)) whole
 
+-- all that came is kept, where none is denied
+pub kept_count : (f : Findings) (head : Head) (before : List Event) → IsCertifying f head before → f.denied ≡ None → length f.kept.events ≡ f.count
+kept_count f head before c none =
+    let reach : length before ≤ length f.kept.events = subst (λ d. end_of before d ≤ length f.kept.events) none c.reach in
+    omega (arith, reach, kept_low f.kept.events before c.kept, c.count)
+
 -- of what comes of a window
 
 pub findings_low : (f : Findings) (head : Head) (before : List Event) → IsCertifying f head before → length f.kept.events ≤ f.count

@@ -32,7 +32,7 @@ const FIRST_WINDOW: usize = 1 << 12;
 const MOST_WINDOW: usize = 1 << 16;
 
 /// How many events the next window asks for: twice as many as the one that is judged meanwhile has.
-pub fn next_size(judged: usize) -> usize
+fn next_size(judged: usize) -> usize
     ensures some { 0 < result }
     ensures most { result ≤ 2 ^ 16 }
 {

@@ -16,7 +16,7 @@ pub use auditor::{audit, audit_one, audit_watched, report_of, write_report, writ
 pub use crew::Crew;
 pub use error::{AuditError, MergeError, rule_number};
 pub use intake::{MOST_CHUNKS, audit_error, read_old_record, read_record};
-pub use judging_by::{Next, judge_record_by, next_size, take_back};
+pub use judging_by::{Next, judge_record_by, take_back};
 pub use merger::merge;
 pub use report::{Report, Verdict, reason_name, reason_number};
 pub use team::Team;

@@ -1,5 +1,5 @@
 use Rattle.std.proofs.Common.{◌∙◌}
-use Rattle.pg_pool.proofs.Deals.{set-same}
+use Rattle.pg_certify.proofs.Teams.{set-same}
 use Rattle.pg_certify.proofs.team.news_of.Goals as goal
 
 pub loop-i-preserved : goal.loop-i-preserved

@@ -21,3 +21,10 @@ after-certifying-requires-clause-count c = let h = c.requires.outcome in room_af
 
 pub after-account-requires : goal.after-account-requires
 after-account-requires c = let h = c.requires.outcome in room_after h.0 c.args.events.now c.args.rest c.args.found c.args.benches.items h.1
+
+pub returns : goal.returns
+returns c = λ a head before h known.
+    let at : In-Some = (goal.at.returns c).In-Some in
+    let all = all_kept at a h in
+    let certifying = certifying_after a c.args.events.now c.args.rest c.args.found c.args.benches.items h c.in-Some.certifier all.1 c.after-certifying.result c.after-certifying.ensures c.witnessed_among_kept.ensures head before known in
+    c.in_ok-account.ensures.account a head before h.none h.count h.named known certifying
