@@ -9,7 +9,8 @@ ghost use Rattle.pg_pool.specs.Rounds.{AreCheckers};
 ghost use Rattle.pg_pool.specs.Verdicts.{AreVerdicts};
 ghost use Rattle.pg_pool.specs.Windows.{HasParts, round_of};
 ghost use Rattle.pg_certify.specs.Accounts.{Account, IsAccount, MayComeNext};
-ghost use Rattle.pg_certify.specs.Benches.{ComesNext, HasOutcome, IsFoundIn, IsWindowFound, with_all};
+ghost use Rattle.pg_certify.specs.Benches.{ComesNext, HasOutcome, IsFoundIn, IsWindowFound};
+ghost use Rattle.pg_certify.specs.Benches.{with_all};
 ghost use Rattle.pg_certify.specs.Teams.{MayComeAsWindow};
 ghost use Rattle.pg_certify.specs.Windows.{IsFirstDenied};
 
