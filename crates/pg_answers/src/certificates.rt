@@ -8,19 +8,17 @@ ghost use Rattle.pg_report.specs.Changes.{drawn};
 ghost use Rattle.pg_answers.specs.Answers.{IsAnswer, IsCertificate, denied_in, yes_report};
 ghost use Rattle.pg_answers.specs.Found.{IsFound, MayFail};
 
-use crate::accounts::{read_account, read_account_by};
+use crate::accounts::{read_account, read_account_by, stop_of};
 use crate::answer::Answer;
 use crate::denials::{denial_by, denial_in};
 use crate::question::Question;
 use pg_arguments::Checkers;
 use pg_certify::{
-    CertifyError, StreamingCertifier, certified_events_run, denied_events_have_no_run,
-    first_denied_by,
+    StreamingCertifier, certified_events_run, denied_events_have_no_run, first_denied_by,
 };
 use pg_check::History;
 use pg_codec::Source;
-use pg_arguments::Checkers;
-use pg_report::{AuditError, Report, Verdict, read_record};
+use pg_report::{AuditError, Report, Verdict};
 use std::alloc::{AllocError, AllocGlobal, Global};
 use std::sync::Wait;
 use std::thread::Threads;
@@ -95,8 +93,7 @@ pub(crate) fn certify_whole<T: AllocGlobal + Threads + Wait + Sync>(
     let number = checkers.number();
     let denied = match first_denied_by(rt, rt.alloc(), history, number as u32) {
         Ok(denied) => denied,
-        Err(CertifyError::Memory) => return Err(AuditError::Memory),
-        Err(CertifyError::Thread) => return Err(AuditError::Thread),
+        Err(error) => return Err(stop_of(error)),
     };
     Ok(certificate_of(rt.alloc(), history, denied)?)
 }

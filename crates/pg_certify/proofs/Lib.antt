@@ -5,5 +5,5 @@ mod Segments
 pub mod Windows
 mod Accounts
 pub mod Named
-mod Benches
+mod SharedWindows
 mod Teams

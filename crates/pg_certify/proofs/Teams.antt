@@ -11,7 +11,7 @@ use Rattle.pg_check.specs.Kept.{AreWellFormed}
 use Rattle.pg_search.specs.Changes.{kept_of, WitnessedAmongKept}
 use Rattle.pg_certify.specs.declared.team.Rest.{Rest}
 use Rattle.pg_certify.specs.Accounts.{Account, IsAccount}
-use Rattle.pg_certify.specs.Benches.{ComesNext, HasOutcome, IsWindowFound}
+use Rattle.pg_certify.specs.SharedWindows.{ComesNext, HasOutcome, IsWindowFound}
 use Rattle.pg_certify.specs.Teams.{MayComeAsWindow}
 use Rattle.pg_certify.specs.Windows.{Findings, IsCertifying, IsFirstDenied, IsJudgedWindow, after_window, with_window}
 use Rattle.pg_certify.proofs.Windows.{denied_within, kept_count, kept_low, window_judged}
@@ -20,17 +20,17 @@ pub kept_after : (f : Findings) (found : Option ℕ) (n : ℕ) → (after_window
 kept_after f None n = refl
 kept_after f (Some k) n = refl
 
-module _ (a : Account) (more : List Event) (rest : Rest) (found : Option ℕ) (benches : List Recorded) (h : HasOutcome a more rest found benches) where
+module _ (a : Account) (more : List Event) (rest : Rest) (found : Option ℕ) (certifiers : List Recorded) (h : HasOutcome a more rest found certifiers) where
   pub found_low : IfSome found (λ k. k < length more)
   found_low = denied_within a.findings.kept.head (a.findings.kept.events ++ map kept_of more) (length a.findings.kept.events) more found h.first
 
   pub room_after : rest.count + length more < 2 ^ 32
   room_after = omega (arith, h.count, h.next.next.certifying.count, h.next.next.limit)
 
-  module _ (bench : Recorded) (is : bench ≡ with_window a.findings.kept more) (new : Findings) (after : new ≡ after_window (record { kept = bench; count = rest.count; denied = None }) found (length more)) where
+  module _ (certifier : Recorded) (is : certifier ≡ with_window a.findings.kept more) (new : Findings) (after : new ≡ after_window (record { kept = certifier; count = rest.count; denied = None }) found (length more)) where
     judged_by : IsJudgedWindow a.findings more new
     judged_by =
-        let kept : record { kept = bench; count = rest.count; denied = None } ≡ record { kept = with_window a.findings.kept more; count = rest.count; denied = None } = ap (λ q. record { kept = q; count = rest.count; denied = None }) is in
+        let kept : record { kept = certifier; count = rest.count; denied = None } ≡ record { kept = with_window a.findings.kept more; count = rest.count; denied = None } = ap (λ q. record { kept = q; count = rest.count; denied = None }) is in
         let count : record { kept = with_window a.findings.kept more; count = rest.count; denied = None } ≡ record { kept = with_window a.findings.kept more; count = a.findings.count; denied = None } =
         ap (λ n. record { kept = with_window a.findings.kept more; count = n; denied = None }) (sym h.count) in
         let denied : record { kept = with_window a.findings.kept more; count = a.findings.count; denied = None } ≡ record { kept = with_window a.findings.kept more; count = a.findings.count; denied = a.findings.denied } =
@@ -43,12 +43,12 @@ module _ (a : Account) (more : List Event) (rest : Rest) (found : Option ℕ) (b
     -- the others keep the same
     pub others_alike : (others : List Recorded) → All (λ b. b ≡ with_window a.findings.kept more) others → All (λ b. b ≡ new.kept) others
     others_alike others all =
-        let same : new.kept ≡ bench = ap (λ (f : Findings). f.kept) after ∙ kept_after (record { kept = bench; count = rest.count; denied = None }) found (length more) in
+        let same : new.kept ≡ certifier = ap (λ (f : Findings). f.kept) after ∙ kept_after (record { kept = certifier; count = rest.count; denied = None }) found (length more) in
         All-weaker (λ (b : Recorded). b ≡ with_window a.findings.kept more) (λ (b : Recorded). b ≡ new.kept) (λ b eq. eq ∙ sym is ∙ sym same) others all
 
 -- a checker that is changed to one that keeps the same
-pub set-same : (benches : List Recorded) (k : ℕ) (old new : Recorded) → old ≡ get_or benches k old → new ≡ old → set benches k new ≡ benches
-set-same benches k old new read same = ap (set benches k) (same ∙ read) ∙ set-get_or benches k old
+pub set-same : (certifiers : List Recorded) (k : ℕ) (old new : Recorded) → old ≡ get_or certifiers k old → new ≡ old → set certifiers k new ≡ certifiers
+set-same certifiers k old new read same = ap (set certifiers k) (same ∙ read) ∙ set-get_or certifiers k old
 
 -- nothing is kept of no event
 pub kept_none : (a : Account) (head : Head) → IsAccount a head [] → a.findings.kept ≡ record { head = head; events = [] }
@@ -77,13 +77,13 @@ window_next a more w may some none valid segment first events =
     }
 
 -- what certifying the window found, beside what stands of the account
-pub outcome : (a : Account) (more : List Event) (rest : Rest) (w : Window) (found : Option ℕ) (benches : List Recorded) → MayComeAsWindow a more → a.findings.denied ≡ None → a.findings.count ≡ rest.count → a.named ≡ rest.named.items → w.events.now ≡ more →
-    IsWindowFound a.findings.kept w found benches → HasOutcome a more rest found benches
-outcome a more rest w found benches may none count named events h = record {
+pub outcome : (a : Account) (more : List Event) (rest : Rest) (w : Window) (found : Option ℕ) (certifiers : List Recorded) → MayComeAsWindow a more → a.findings.denied ≡ None → a.findings.count ≡ rest.count → a.named ≡ rest.named.items → w.events.now ≡ more →
+    IsWindowFound a.findings.kept w found certifiers → HasOutcome a more rest found certifiers
+outcome a more rest w found certifiers may none count named events h = record {
   none = none;
   next = may.next;
   count = count;
   named = named;
   first = subst (λ (es : List Event). IsFirstDenied a.findings.kept.head (a.findings.kept.events ++ map kept_of es) (length a.findings.kept.events) es found) events h.first;
-  all = subst (λ (es : List Event). All (λ b. b ≡ with_window a.findings.kept es) benches) events h.all;
+  all = subst (λ (es : List Event). All (λ b. b ≡ with_window a.findings.kept es) certifiers) events h.all;
 }

@@ -2,5 +2,5 @@ pub mod Certified
 pub mod Segments
 pub mod Windows
 pub mod Accounts
-pub mod Benches
+pub mod SharedWindows
 pub mod Teams

@@ -5,7 +5,6 @@
 #![tactic(auto)]
 
 mod account;
-mod bench;
 mod case;
 mod certifier;
 mod certifying;
@@ -20,6 +19,7 @@ mod next_event;
 mod pages;
 mod recent_lookups;
 mod segment_checkers;
+mod shared_window;
 mod team;
 mod walk;
 mod whole;

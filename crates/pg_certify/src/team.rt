@@ -9,8 +9,8 @@ ghost use Rattle.pg_pool.specs.Rounds.{AreCheckers};
 ghost use Rattle.pg_pool.specs.Verdicts.{AreVerdicts};
 ghost use Rattle.pg_pool.specs.Windows.{HasParts, round_of};
 ghost use Rattle.pg_certify.specs.Accounts.{Account, IsAccount, MayComeNext};
-ghost use Rattle.pg_certify.specs.Benches.{ComesNext, HasOutcome, IsFoundIn, IsWindowFound};
-ghost use Rattle.pg_certify.specs.Benches.{with_all};
+ghost use Rattle.pg_certify.specs.SharedWindows.{ComesNext, HasOutcome, IsFoundIn, IsWindowFound};
+ghost use Rattle.pg_certify.specs.SharedWindows.{with_all};
 ghost use Rattle.pg_certify.specs.Teams.{MayComeAsWindow};
 ghost use Rattle.pg_certify.specs.Windows.{IsFirstDenied};
 
@@ -51,21 +51,21 @@ impl<'a> Drop for OfWindow<'a> {
 
 impl<'a> Segments for OfWindow<'a> {
     ghost use Rattle.std.specs.Prelude.{◌≡◌};
-    ghost use Rattle.pg_certify.specs.Benches.{Fits, IsFoundIn};
+    ghost use Rattle.pg_certify.specs.SharedWindows.{Fits, IsFoundIn};
 
-    type Bench = Certifier<KeptRun>;
+    type CheckerState = Certifier<KeptRun>;
 
     type Verdict = Option<usize>;
 
     ghost round = { λ s. s.round };
 
-    ghost fits = { λ s run bench. Fits s.window.now run bench };
+    ghost fits = { λ s run certifier. Fits s.window.now run certifier };
 
-    ghost ends = { λ s run bench. Fits s.window.now run bench × (bench ≡ run) };
+    ghost ends = { λ s run certifier. Fits s.window.now run certifier × (certifier ≡ run) };
 
     ghost tells = { λ s run n found. IsFoundIn s.window.now run n found };
 
-    ghost again = { λ s run bench h. h.0 };
+    ghost again = { λ s run certifier h. h.0 };
 
     fn round(&self) -> Round {
         self.round
@@ -77,15 +77,15 @@ impl<'a> Segments for OfWindow<'a> {
 
     fn judge(
         &self,
-        bench: &mut Certifier<KeptRun>,
+        certifier: &mut Certifier<KeptRun>,
         number: u32,
     ) -> Result<Option<usize>, AllocError> {
-        bench.be_told(self.window.first, self.news);
-        bench.judge_segment(self.window, number as u64)
+        certifier.be_told(self.window.first, self.news);
+        certifier.judge_segment(self.window, number as u64)
     }
 
-    fn finish(&self, bench: &mut Certifier<KeptRun>) -> Result<(), AllocError> {
-        bench.keep_whole(self.window)
+    fn finish(&self, certifier: &mut Certifier<KeptRun>) -> Result<(), AllocError> {
+        certifier.keep_whole(self.window)
     }
 }
 
@@ -119,13 +119,13 @@ fn first_found(verdicts: &[Option<usize>]) -> Option<usize>
 }
 
 /// What each checker found since this was asked last. Where memory is refused, some is not told.
-fn news_of(alloc: Global, benches: &mut Vec<Certifier<KeptRun>>) -> Vec<Vec<Found>>
-    ensures { benches.new.items ≡ benches.old.items }
+fn news_of(alloc: Global, certifiers: &mut Vec<Certifier<KeptRun>>) -> Vec<Vec<Found>>
+    ensures { certifiers.new.items ≡ certifiers.old.items }
 {
     let mut news = Vec::new(alloc);
-    for i in 0..benches.len() {
-        let bench = &mut benches[i];
-        let _refused = news.push(bench.news(alloc)).is_err();
+    for i in 0..certifiers.len() {
+        let certifier = &mut certifiers[i];
+        let _refused = news.push(certifier.news(alloc)).is_err();
     }
     news
 }
@@ -137,34 +137,35 @@ fn certify_window<R: Threads + Wait + Sync, B: Beside>(
     rt: &R,
     alloc: Global,
     window: &Window<'_>,
-    benches: Vec<Certifier<KeptRun>>,
+    certifiers: Vec<Certifier<KeptRun>>,
     beside: B,
 ) -> (
     Result<(Option<usize>, Vec<Certifier<KeptRun>>), CertifyError>,
     B::Output,
 )
-    requires checkers { AreCheckers (vec_len benches) }
+    requires checkers { AreCheckers (vec_len certifiers) }
     requires next { (kept : Recorded) × ComesNext kept window.now
-        × All (λ b. b ≡ kept) benches.items }
+        × All (λ b. b ≡ kept) certifiers.items }
     requires beside { B.can_run beside }
-    ensures ok { (kept : Recorded) → ComesNext kept window.now → All (λ b. b ≡ kept) benches.items →
+    ensures ok { (kept : Recorded) → ComesNext kept window.now →
+        All (λ b. b ≡ kept) certifiers.items →
         IfOk result.0 (λ r. IsWindowFound kept window.now r.0 r.1.items) }
-    ensures len { IfOk result.0 (λ r. vec_len r.1 ≡ vec_len benches) }
+    ensures len { IfOk result.0 (λ r. vec_len r.1 ≡ vec_len certifiers) }
     ensures beside { B.gives beside result.1 }
 {
     let round = round_of(window);
-    let mut benches = benches;
-    let news = news_of(alloc, &mut benches);
+    let mut certifiers = certifiers;
+    let news = news_of(alloc, &mut certifiers);
     let segments = OfWindow {
         window,
         round,
         news: news.as_slice(),
     };
-    let (outcome, output) = judge_round(rt, alloc, &segments, &OpenGate, benches, beside);
+    let (outcome, output) = judge_round(rt, alloc, &segments, &OpenGate, certifiers, beside);
     match outcome {
         Ok(outcome) => {
             let found = first_found(&outcome.verdicts);
-            (Ok((found, outcome.benches)), output)
+            (Ok((found, outcome.states)), output)
         }
         Err(error) => (Err(certify_error(error)), output),
     }
@@ -206,12 +207,12 @@ fn settled(
     rest: Rest,
     events: &[Event],
     found: Option<usize>,
-    benches: Vec<Certifier<KeptRun>>,
+    certifiers: Vec<Certifier<KeptRun>>,
 ) -> Result<CertifyingTeam, AllocError>
-    requires few { AreCheckers (vec_len benches) }
-    requires outcome { (a : Account) × HasOutcome a events.now rest found benches.items }
+    requires few { AreCheckers (vec_len certifiers) }
+    requires outcome { (a : Account) × HasOutcome a events.now rest found certifiers.items }
     ensures { (a : Account) (head : Head) (before : List Event) →
-        HasOutcome a events.now rest found benches.items → IsAccount a head before →
+        HasOutcome a events.now rest found certifiers.items → IsAccount a head before →
         IfOk result (λ team. IsAccount team head (before ++ events.now)) }
 {
     witnessed_among_kept();
@@ -220,7 +221,7 @@ fn settled(
         count,
         named,
     } = rest;
-    let mut others = benches;
+    let mut others = certifiers;
     let Some(certifier) = others.pop() else {
         unreachable!()
     };
@@ -243,7 +244,7 @@ fn settled_if(
         IfOk result (λ team. IsAccount team head (before ++ events.now)) }
 {
     match found {
-        Ok((found, benches)) => Ok(settled(rest, events, found, benches)?),
+        Ok((found, certifiers)) => Ok(settled(rest, events, found, certifiers)?),
         Err(error) => Err(error),
     }
 }
@@ -283,14 +284,14 @@ impl CertifyingTeam {
         let (certifying, named) = account.apart();
         let (certifier, count) = certifying.apart();
         let segment = certifier.kept().header().segment;
-        let mut benches = others;
-        benches.push(certifier)?;
+        let mut certifiers = others;
+        certifiers.push(certifier)?;
         let rest = Rest {
             segment,
             count,
             named,
         };
-        Ok((rest, benches))
+        Ok((rest, certifiers))
     }
 
     /// Has the checkers certify the events that come next, where none before them is denied.
@@ -311,7 +312,7 @@ impl CertifyingTeam {
         if events.is_empty() {
             return (Ok(self), beside.run());
         }
-        let (rest, benches) = match self.apart() {
+        let (rest, certifiers) = match self.apart() {
             Ok(parts) => parts,
             Err(_) => return (Err(CertifyError::Memory), beside.run()),
         };
@@ -320,7 +321,7 @@ impl CertifyingTeam {
             first: rest.count,
             events,
         };
-        let (found, output) = certify_window(rt, alloc, &window, benches, beside);
+        let (found, output) = certify_window(rt, alloc, &window, certifiers, beside);
         (settled_if(rest, events, found), output)
     }
 

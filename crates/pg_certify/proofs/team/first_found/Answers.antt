@@ -1,5 +1,5 @@
 use Rattle.std.proofs.Common.{◌≡◌, ℕ, length, arith, subst, Some, None}
-use Rattle.pg_certify.proofs.Benches.{CanBelow, can_more, found_at, found_first, found_none}
+use Rattle.pg_certify.proofs.SharedWindows.{CanBelow, can_more, found_at, found_first, found_none}
 use Rattle.pg_certify.proofs.team.first_found.Goals as goal
 
 pub loop-found-init : goal.loop-found-init

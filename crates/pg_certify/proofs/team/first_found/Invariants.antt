@@ -3,8 +3,8 @@ use Rattle.pg_event.specs.Spelling.{Recorded}
 use Rattle.pg_check.specs.declared.window.Window.{Window}
 use Rattle.pg_pool.specs.Verdicts.{AreVerdicts}
 use Rattle.pg_pool.specs.Windows.{round_of}
-use Rattle.pg_certify.specs.Benches.{ComesNext, IsFoundIn, with_all}
-use Rattle.pg_certify.proofs.Benches.{CanBelow}
+use Rattle.pg_certify.specs.SharedWindows.{ComesNext, IsFoundIn, with_all}
+use Rattle.pg_certify.proofs.SharedWindows.{CanBelow}
 use Rattle.pg_certify.proofs.team.first_found.Given as goal
 
 abbrev pub invariant-loop-found : goal.invariant-loop-found

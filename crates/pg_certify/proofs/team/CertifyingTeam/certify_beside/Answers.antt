@@ -1,6 +1,6 @@
 use Rattle.std.proofs.Common.{◌≡◌, ◌∙◌, ◌==◌, true≢false, List, length, ap, sym, refl}
 use Rattle.std.proofs.lemmas.Result.{IfOk-weaker}
-use Rattle.pg_certify.specs.Benches.{ComesNext, HasOutcome, IsWindowFound}
+use Rattle.pg_certify.specs.SharedWindows.{ComesNext, HasOutcome, IsWindowFound}
 use Rattle.pg_certify.proofs.Teams.{outcome, window_next}
 use Rattle.pg_certify.proofs.team.CertifyingTeam.certify_beside.Given.{Over}
 use Rattle.pg_certify.proofs.team.CertifyingTeam.certify_beside.Goals as goal

@@ -1,14 +1,14 @@
 use Rattle.std.proofs.Common.{sym, subst, IfOk}
 use Rattle.pg_event.specs.Spelling.{Recorded}
-use Rattle.pg_certify.specs.Benches.{IsFoundIn}
-use Rattle.pg_certify.proofs.Benches.{fits_at}
+use Rattle.pg_certify.specs.SharedWindows.{IsFoundIn}
+use Rattle.pg_certify.proofs.SharedWindows.{fits_at}
 use Rattle.pg_certify.proofs.team.OfWindowSegments.judge.Goals as goal
 
 pub judge_segment-requires-clause-amid : goal.judge_segment-requires-clause-amid
 judge_segment-requires-clause-amid c = let f = c.requires.fits.1 in (f.kept, f.next, f.amid)
 
 pub returns-clause-fits : goal.returns-clause-fits
-returns-clause-fits c = λ run f. fits_at c.judge_segment.result c.args.self.now.window.now run c.args.bench.now f c.judge_segment.new.self (c.judge_segment.ensures.ok f.kept f.next f.amid)
+returns-clause-fits c = λ run f. fits_at c.judge_segment.result c.args.self.now.window.now run c.args.certifier.now f c.judge_segment.new.self (c.judge_segment.ensures.ok f.kept f.next f.amid)
 
 pub returns-clause-verdict : goal.returns-clause-verdict
 returns-clause-verdict c = λ run f.

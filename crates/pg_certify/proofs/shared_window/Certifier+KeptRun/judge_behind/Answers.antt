@@ -1,8 +1,8 @@
 use Rattle.std.proofs.Common.{◌≡◌, ◌+◌, ◌≤◌, ℕ, length, sym, subst, arith, refl}
 use Rattle.pg_event.specs.Heads.{Head}
 use Rattle.pg_check.specs.Kept.{AreWellFormed}
-use Rattle.pg_certify.proofs.Benches.{amid_place, found_within, head_amid}
-use Rattle.pg_certify.proofs.bench.Certifier+KeptRun.judge_behind.Goals as goal
+use Rattle.pg_certify.proofs.SharedWindows.{amid_place, found_within, head_amid}
+use Rattle.pg_certify.proofs.shared_window.Certifier+KeptRun.judge_behind.Goals as goal
 
 pub first_denied_between-requires-clause-well : goal.first_denied_between-requires-clause-well
 first_denied_between-requires-clause-well c =

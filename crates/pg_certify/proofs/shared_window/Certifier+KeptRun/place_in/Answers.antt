@@ -1,6 +1,6 @@
 use Rattle.std.proofs.Common.{◌≡◌, ◌+◌, ◌≤◌, arith}
-use Rattle.pg_certify.proofs.Benches.{amid_place}
-use Rattle.pg_certify.proofs.bench.Certifier+KeptRun.place_in.Goals as goal
+use Rattle.pg_certify.proofs.SharedWindows.{amid_place}
+use Rattle.pg_certify.proofs.shared_window.Certifier+KeptRun.place_in.Goals as goal
 
 pub returns-clause-place : goal.returns-clause-place
 returns-clause-place c = λ kept next amid. omega (arith, c.len.ensures.length, next.first, amid_place c.args.self.now kept c.args.window.now amid)

@@ -4,7 +4,7 @@ use Rattle.pg_event.specs.declared.event.Event.{Event}
 use Rattle.pg_event.specs.Spelling.{Recorded}
 use Rattle.pg_certify.specs.Windows.{with_window}
 use Rattle.pg_certify.proofs.Windows.{here, one_coming}
-use Rattle.pg_certify.proofs.bench.Certifier+KeptRun.pass_by.Goals as goal
+use Rattle.pg_certify.proofs.shared_window.Certifier+KeptRun.pass_by.Goals as goal
 
 pub loop-i-preserved : goal.loop-i-preserved
 loop-i-preserved c =

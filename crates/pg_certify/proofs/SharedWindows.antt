@@ -20,7 +20,7 @@ use Rattle.pg_pool.specs.Verdicts.{AreVerdicts}
 use Rattle.pg_pool.specs.Windows.{round_of}
 use Rattle.pg_certify.specs.Certified.{IsFoundFor, IsUnwitnessed}
 use Rattle.pg_certify.specs.Windows.{CanBeAmong, IsDeniedAmong, IsFirstDenied, with_window}
-use Rattle.pg_certify.specs.Benches.{ComesNext, Fits, IsAmid, IsDeniedBetween, IsFirstBetween, IsFoundIn, with_all}
+use Rattle.pg_certify.specs.SharedWindows.{ComesNext, Fits, IsAmid, IsDeniedBetween, IsFirstBetween, IsFoundIn, with_all}
 use Rattle.pg_certify.proofs.Founds.{named, found_witness}
 use Rattle.pg_certify.proofs.Gathered.{there_within}
 use Rattle.pg_certify.proofs.Windows.{split_window, there_more, there_past}
@@ -322,6 +322,6 @@ fits_end (Ok x) w run now f new is = record { kept = f.kept; next = f.next; is =
 fits_end (Err e) w run now f new is = is
 
 -- checkers that keep what comes before a window may go through it
-pub all_fit : (kept : Recorded) (w : Window) (benches : List Recorded) → ComesNext kept w → All (λ b. b ≡ kept) benches → All (Fits w (with_all kept w)) benches
-all_fit kept w benches next all =
-    All-weaker (λ (b : Recorded). b ≡ kept) (Fits w (with_all kept w)) (λ b is. record { kept = kept; next = next; is = refl; amid = amid_start b kept w is }) benches all
+pub all_fit : (kept : Recorded) (w : Window) (certifiers : List Recorded) → ComesNext kept w → All (λ b. b ≡ kept) certifiers → All (Fits w (with_all kept w)) certifiers
+all_fit kept w certifiers next all =
+    All-weaker (λ (b : Recorded). b ≡ kept) (Fits w (with_all kept w)) (λ b is. record { kept = kept; next = next; is = refl; amid = amid_start b kept w is }) certifiers all

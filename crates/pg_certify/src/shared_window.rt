@@ -4,8 +4,9 @@ ghost use Rattle.std.specs.Prelude.{◌≡◌, ◌+◌, ◌<◌, ◌≤◌, ◌^
 ghost use Rattle.pg_event.specs.Spelling.{Recorded};
 ghost use Rattle.pg_check.specs.Kept.{AreWellFormed};
 ghost use Rattle.pg_check.specs.Windows.{HasPart};
+ghost use Rattle.pg_certify.specs.SharedWindows.{ComesNext, IsAmid, IsFirstBetween, IsFoundIn};
+ghost use Rattle.pg_certify.specs.SharedWindows.{with_all};
 ghost use Rattle.pg_certify.specs.Windows.{with_window};
-ghost use Rattle.pg_certify.specs.Benches.{ComesNext, IsAmid, IsFirstBetween, IsFoundIn, with_all};
 
 use crate::certifier::Certifier;
 use crate::guesses::Found;

@@ -3,8 +3,8 @@ use Rattle.pg_event.specs.Heads.{Head}
 use Rattle.pg_event.specs.Spelling.{Recorded}
 use Rattle.pg_check.specs.Kept.{AreWellFormed}
 use Rattle.pg_check.proofs.Windows.{well_between}
-use Rattle.pg_certify.proofs.Benches.{amid_at, amid_place, head_amid, kept_at, kept_further, length_at, slice_size}
-use Rattle.pg_certify.proofs.bench.Certifier+KeptRun.keep_to.Goals as goal
+use Rattle.pg_certify.proofs.SharedWindows.{amid_at, amid_place, head_amid, kept_at, kept_further, length_at, slice_size}
+use Rattle.pg_certify.proofs.shared_window.Certifier+KeptRun.keep_to.Goals as goal
 
 pub pass_by-requires-clause-well : goal.pass_by-requires-clause-well
 pass_by-requires-clause-well c =

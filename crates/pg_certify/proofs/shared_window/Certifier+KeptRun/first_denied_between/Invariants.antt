@@ -1,6 +1,6 @@
 use Rattle.std.proofs.Common.{◌≡◌, ℕ, ◌<◌, ◌≤◌}
 use Rattle.pg_certify.specs.Windows.{CanBeAmong}
-use Rattle.pg_certify.proofs.bench.Certifier+KeptRun.first_denied_between.Given as goal
+use Rattle.pg_certify.proofs.shared_window.Certifier+KeptRun.first_denied_between.Given as goal
 
 abbrev pub invariant-loop-i : goal.invariant-loop-i
 invariant-loop-i l = record {

@@ -1,6 +1,6 @@
 use Rattle.std.proofs.Common.{◌≡◌, ◌+◌, ◌-◌, ◌*◌, ◌≤◌, ℕ, length, refl, arith}
-use Rattle.pg_certify.proofs.Benches.{amid_place, of_segment}
-use Rattle.pg_certify.proofs.bench.Certifier+KeptRun.judge_segment.Goals as goal
+use Rattle.pg_certify.proofs.SharedWindows.{amid_place, of_segment}
+use Rattle.pg_certify.proofs.shared_window.Certifier+KeptRun.judge_segment.Goals as goal
 
 pub judge_ahead-requires-clause-amid : goal.judge_ahead-requires-clause-amid
 judge_ahead-requires-clause-amid c =

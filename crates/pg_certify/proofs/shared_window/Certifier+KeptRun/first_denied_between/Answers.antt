@@ -2,9 +2,9 @@ use Rattle.std.proofs.Common.{◌≡◌, ℕ, ◌+◌, ◌<◌, ◌≤◌, List,
 use Rattle.std.specs.Prelude.{slice_get}
 use Rattle.pg_event.specs.declared.event.Event.{Event}
 use Rattle.pg_event.specs.Spelling.{Recorded}
-use Rattle.pg_certify.proofs.Benches.{between_denied, between_more, found_behind}
+use Rattle.pg_certify.proofs.SharedWindows.{between_denied, between_more, found_behind}
 use Rattle.pg_certify.proofs.Windows.{here}
-use Rattle.pg_certify.proofs.bench.Certifier+KeptRun.first_denied_between.Goals as goal
+use Rattle.pg_certify.proofs.shared_window.Certifier+KeptRun.first_denied_between.Goals as goal
 
 pub loop-i-preserved : goal.loop-i-preserved
 loop-i-preserved c =

@@ -3,8 +3,8 @@ use Rattle.pg_event.specs.Heads.{Head}
 use Rattle.pg_event.specs.Spelling.{Recorded}
 use Rattle.pg_check.specs.Kept.{AreWellFormed}
 use Rattle.pg_check.proofs.Windows.{well_between}
-use Rattle.pg_certify.proofs.Benches.{amid_at, found_ahead, head_amid, kept_at, kept_further, slice_size}
-use Rattle.pg_certify.proofs.bench.Certifier+KeptRun.judge_ahead.Goals as goal
+use Rattle.pg_certify.proofs.SharedWindows.{amid_at, found_ahead, head_amid, kept_at, kept_further, slice_size}
+use Rattle.pg_certify.proofs.shared_window.Certifier+KeptRun.judge_ahead.Goals as goal
 
 pub first_denied_in-requires-clause-well : goal.first_denied_in-requires-clause-well
 first_denied_in-requires-clause-well c =

@@ -61,18 +61,18 @@ pub record Fits (w : Window) (run now : Recorded) : Type 0 where
 
 -- what certifying a window finds, and what each checker keeps then
 pub record IsWindowFound (kept : Recorded) (w : Window) (found : Option ℕ)
-    (benches : List Recorded) : Type 0 where
+    (certifiers : List Recorded) : Type 0 where
   pub first : IsFirstDenied kept.head (with_all kept w).events (length kept.events) w.events.now
       found
-  pub all : All (λ b. b ≡ with_all kept w) benches
+  pub all : All (λ b. b ≡ with_all kept w) certifiers
 
 -- what stands of an account whose window was certified, and what that found
 pub record HasOutcome (a : Account) (more : List Event) (rest : Rest) (found : Option ℕ)
-    (benches : List Recorded) : Type 0 where
+    (certifiers : List Recorded) : Type 0 where
   pub none : a.findings.denied ≡ None
   pub next : MayComeNext a more
   pub count : a.findings.count ≡ rest.count
   pub named : a.named ≡ rest.named.items
   pub first : IsFirstDenied a.findings.kept.head (a.findings.kept.events ++ map kept_of more)
       (length a.findings.kept.events) more found
-  pub all : All (λ b. b ≡ with_window a.findings.kept more) benches
+  pub all : All (λ b. b ≡ with_window a.findings.kept more) certifiers
