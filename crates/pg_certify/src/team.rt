@@ -182,6 +182,18 @@ struct Rest {
     named: Vec<Numbered>,
 }
 
+/// The window with these events, which come behind those that are known.
+fn window_of<'a>(rest: &Rest, events: &'a [Event]) -> Window<'a>
+    ensures { (result.segment ≡ rest.now.segment) × (result.first ≡ rest.now.count)
+        × (result.events.now ≡ events.now) }
+{
+    Window {
+        segment: rest.segment,
+        first: rest.count,
+        events,
+    }
+}
+
 /// What is known of a run so far, as a `StreamingCertifier` has it, and what each further checker
 /// keeps of it: none does once an event is denied.
 #[derive(Drop)]
@@ -274,7 +286,7 @@ impl CertifyingTeam {
 
     /// What the checkers keep, and what is known besides, apart. Fails where memory is refused.
     fn apart(self) -> Result<(Rest, Vec<Certifier<KeptRun>>), AllocError>
-        ensures head { IsHead self.findings.kept.head }
+        ensures head { IfOk result (λ _. IsHead self.findings.kept.head) }
         ensures rest { IfOk result (λ r. (r.0.segment ≡ self.findings.kept.head.segment)
             × (self.findings.count ≡ r.0.count) × (self.named ≡ r.0.named.items)) }
         ensures all { IfOk result (λ r. All (λ b. b ≡ self.findings.kept) r.1.items) }
@@ -316,11 +328,7 @@ impl CertifyingTeam {
             Ok(parts) => parts,
             Err(_) => return (Err(CertifyError::Memory), beside.run()),
         };
-        let window = Window {
-            segment: rest.segment,
-            first: rest.count,
-            events,
-        };
+        let window = window_of(&rest, events);
         let (found, output) = certify_window(rt, alloc, &window, certifiers, beside);
         (settled_if(rest, events, found), output)
     }
