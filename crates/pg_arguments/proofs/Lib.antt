@@ -1,3 +1,4 @@
 pub mod Parses
 pub mod Rows
 pub mod Told
+pub mod Pieces

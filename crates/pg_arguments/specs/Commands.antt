@@ -29,6 +29,7 @@ use Rattle.pg_arguments.specs.declared.request.ShowOptions.{ShowOptions}
 use Rattle.pg_arguments.specs.declared.request.Telling.{Telling}
 use Rattle.pg_arguments.specs.declared.request.Usage.{Usage}
 use Rattle.pg_arguments.specs.declared.request.Usage.TheVariants.{Help, Version, Fault, Memory}
+use Rattle.pg_arguments.specs.Ruled.{rules_asked}
 pub use Rattle.clap.specs.Walk.{texts}
 pub use Rattle.pg_arguments.specs.Values.{AreAsked, IsAsked, IsNumberIn, IsAddressIn}
 pub use Rattle.pg_arguments.specs.Values.{IsCpuIn, IsMost, IsPageIn, IsOptional, IsTelling, Reads}
@@ -83,6 +84,10 @@ with_json line = with_rule line (switch_rule (codes "json"))
 abbrev pub with_forms : App → App
 with_forms line = with_rule (with_json line) (switch_rule (codes "trace"))
 
+-- `--rules` and a text
+abbrev pub with_rules : App → App
+with_rules line = with_rule line (value_rule (codes "rules"))
+
 -- `--quiet`, or `-q`
 abbrev pub quiet_rule : Rule
 quiet_rule = record (switch_rule (codes "quiet")) { short = Some 113 }
@@ -112,7 +117,7 @@ check_line =
     let line = with_rule (new_app (codes "check")) checkers_rule in
     let all = with_rule line (switch_rule (codes "all")) in
     let first = with_rule all (switch_rule (codes "first")) in
-    with_files (with_json first)
+    with_files (with_rules (with_json first))
 
 abbrev pub certify_line : App
 certify_line =
@@ -120,7 +125,7 @@ certify_line =
     let bytes = with_rule line (switch_rule (codes "bytes")) in
     let order = with_rule bytes (switch_rule (codes "order")) in
     let first = with_rule order (switch_rule (codes "first")) in
-    with_files (with_forms first)
+    with_files (with_rules (with_forms first))
 
 abbrev pub run_line : App
 run_line =
@@ -152,7 +157,7 @@ abbrev pub show_line : App
 show_line =
     let line = with_rule filter_line (number_rule (codes "from")) in
     let to = with_rule line (number_rule (codes "to")) in
-    with_file (with_outputs (with_forms to))
+    with_file (with_outputs (with_rules (with_forms to)))
 
 -- an option has a second name
 abbrev pub also_named : Rule → Text → Rule
@@ -174,7 +179,7 @@ explain_line =
     let most = with_rule all most_rule in
     let svg = with_rule most (switch_rule (codes "svg")) in
     let event = with_rule svg (number_rule (codes "event")) in
-    with_files (with_forms event)
+    with_files (with_rules (with_forms event))
 
 -- a number from 1 to 1,000,000 after `--limit`
 abbrev pub limit_rule : Rule
@@ -204,6 +209,9 @@ abbrev pub merge_line : App
 merge_line =
     with_rule (with_outputs (with_rule (new_app (codes "merge")) error_rule)) logs_rule
 
+abbrev pub run_of_line : App
+run_of_line = with_progress (with_rules (new_app (codes "run-of")))
+
 -- the commands that judge a record
 abbrev pub judging_line : App
 judging_line = with_subcommand (with_subcommand bare_line check_line.top) certify_line.top
@@ -212,7 +220,7 @@ judging_line = with_subcommand (with_subcommand bare_line check_line.top) certif
 abbrev pub running_line : App
 running_line =
     with_subcommand (with_subcommand judging_line run_line.top)
-    (plain_line (codes "run-of")).top
+    run_of_line.top
 
 -- and those that say more of a record
 abbrev pub telling_line : App
@@ -291,6 +299,12 @@ mixes_files rows =
 abbrev pub loads_alone : List Row → Bool
 loads_alone rows = has (codes "loads") rows && not (is_some (first_of (codes "page") rows))
 
+-- other rules are asked for, and a form that is written of all rules alone
+abbrev pub mixes_rules : List Row → Bool
+mixes_rules rows =
+    is_some (first_of (codes "rules") rows)
+    && (has (codes "bytes") rows || has (codes "first") rows || has (codes "trace") rows)
+
 -- Of two options one has no effect beside the other: two say what is written, or a trace is asked
 -- for and what is no part of one; or a record is read up to the first event that is rejected, which
 -- one checker does, and which is not all of it; or one thread runs a script, and tells of no
@@ -302,7 +316,7 @@ has_conflict rows =
     || (has (codes "first") rows
     && (has (codes "all") rows || is_some (first_of (codes "checkers") rows)))
     || (has (codes "single") rows && has (codes "progress") rows)
-    || is_unheard rows || mixes_files rows || loads_alone rows
+    || is_unheard rows || mixes_files rows || loads_alone rows || mixes_rules rows
 
 -- these are the events that options ask for
 pub record IsSelectionOf (rows : List Row) (asked : Selection) : Type 0 where
@@ -380,6 +394,7 @@ IsPlanOf None plan = ⊥
 IsPlanOf (Some (name, rows)) plan =
     IsCommandOf name rows plan.command × (plan.progress ≡ has (codes "progress") rows)
     × (plan.quiet ≡ has (codes "quiet") rows) × (has_conflict rows ≡ false)
+    × (rules_asked (first_of (codes "rules") rows) ≡ Some plan.rules)
 
 -- the file of a name: none for `-`, which is standard input
 abbrev pub named_file : Option Text → Option Text

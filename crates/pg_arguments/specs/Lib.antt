@@ -3,3 +3,4 @@ pub mod Values
 pub mod Commands
 pub mod Making
 pub mod Texts
+pub mod Ruled

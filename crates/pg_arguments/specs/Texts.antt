@@ -19,7 +19,8 @@ more_text = codes "\n\nFor more information, try '--help'.\n"
 abbrev pub number_text : Text
 number_text =
     codes "error: a number is given by digits alone, an address by 0x and 1 to 16 hexadecimal"
-    ++ (codes " digits,\n  and a page by an address that is canonical" ++ more_text)
+    ++ (codes " digits,\n  a page by an address that is canonical, and rules by intel, amd or lax,"
+    ++ (codes " and then\n  -RULE or +RULE behind commas" ++ more_text))
 
 -- options ask to be told of bad events in two ways, or of so many without all
 abbrev pub telling_text : Text
@@ -34,7 +35,8 @@ conflict_text =
     ++ (codes " and so do\n  --first and each of --all and --checkers, --trace and each of --all,"
     ++ (codes " --event and --loads,\n  --single and --progress, and --quiet and each of"
     ++ (codes " --output, --bytes, --order, --svg and\n  --trace; several files exclude --json,"
-    ++ (codes " --bytes, --svg and --trace; --loads goes with --page" ++ more_text))))
+    ++ (codes " --bytes, --svg and --trace; --loads goes with --page;"
+    ++ (codes "\n  --rules excludes --bytes, --first and --trace" ++ more_text)))))
 
 -- of which `explain` is asked to tell bad events in two ways, or of a number of them that is none
 abbrev pub IsMistold : Text → List Row → Type 0

@@ -6,6 +6,7 @@ mod checkers;
 mod lines;
 mod planner;
 mod request;
+mod ruled;
 mod values;
 mod words;
 

@@ -11,7 +11,8 @@ ghost use Rattle.pg_arguments.specs.Commands.{telling_line, filter_line, file_ru
 ghost use Rattle.pg_arguments.specs.Commands.{value_rule, switch_rule, checkers_rule};
 ghost use Rattle.pg_arguments.specs.Commands.{quiet_rule, with_outputs, with_told, number_rule};
 ghost use Rattle.pg_arguments.specs.Commands.{cpu_rule, most_rule, most_number_rule};
-ghost use Rattle.pg_arguments.specs.Commands.{also_named, with_files, with_progress};
+ghost use Rattle.pg_arguments.specs.Commands.{also_named, with_files, with_progress, with_rules};
+ghost use Rattle.pg_arguments.specs.Commands.{run_of_line};
 
 use clap::{Arg, ArgAction, Command as CommandLine, value_parser};
 use std::alloc::{AllocError, Global};
@@ -139,6 +140,11 @@ const PROGRESS_ABOUT: &str = "Report each second how many events were read, on s
 
 const RECORDED_ABOUT: &str =
     "Report each million events recorded, on standard error; not with --single";
+
+pub(crate) const RULES: &str = "rules";
+
+const RULES_ABOUT: &str =
+    "Rules that processors are held to: intel (default), amd or lax, then ,-RULE or ,+RULE";
 
 pub(crate) const OUTPUT: &str = "output";
 
@@ -364,6 +370,16 @@ fn quiet_option<'a>(alloc: Global) -> Arg<'a>
     switch(alloc, QUIET, QUIET_ABOUT).short('q')
 }
 
+/// The command with `--rules`.
+fn with_rules<'a>(
+    alloc: Global,
+    line: Result<CommandLine<'a>, AllocError>,
+) -> Result<CommandLine<'a>, AllocError>
+    ensures { (app : App) → IsLine app line.entry → IsLine (with_rules app) result }
+{
+    with_option(line, value_option(alloc, RULES, "RULES", RULES_ABOUT))
+}
+
 /// The command with `--output` and `--quiet`.
 fn with_outputs<'a>(
     alloc: Global,
@@ -427,6 +443,7 @@ fn check_line<'a>(alloc: Global) -> Result<CommandLine<'a>, AllocError>
     let line = with_option(line, switch(alloc, ALL, SUMMARY_ABOUT));
     let line = with_option(line, switch(alloc, FIRST, FIRST_ABOUT));
     let line = with_option(line, switch(alloc, JSON, JSON_ABOUT));
+    let line = with_rules(alloc, line);
     with_files(alloc, line)
 }
 
@@ -440,6 +457,7 @@ fn certify_line<'a>(alloc: Global) -> Result<CommandLine<'a>, AllocError>
     let line = with_option(line, switch(alloc, FIRST, FIRST_ABOUT));
     let line = with_option(line, switch(alloc, JSON, JSON_ABOUT));
     let line = with_option(line, switch(alloc, TRACE, TRACE_ABOUT));
+    let line = with_rules(alloc, line);
     with_files(alloc, line)
 }
 
@@ -472,6 +490,7 @@ fn show_line<'a>(alloc: Global) -> Result<CommandLine<'a>, AllocError>
     let line = with_option(line, number_option(alloc, TO, "B", TO_ABOUT));
     let line = with_option(line, switch(alloc, JSON, JSON_LINES_ABOUT));
     let line = with_option(line, switch(alloc, TRACE, TRACE_ABOUT));
+    let line = with_rules(alloc, line);
     let line = with_outputs(alloc, line);
     with_option(line, file_option(alloc))
 }
@@ -486,7 +505,15 @@ fn explain_line<'a>(alloc: Global) -> Result<CommandLine<'a>, AllocError>
     let line = with_option(line, number_option(alloc, EVENT, "N", TOLD_EVENT_ABOUT));
     let line = with_option(line, switch(alloc, JSON, JSON_ABOUT));
     let line = with_option(line, switch(alloc, TRACE, TRACE_ABOUT));
+    let line = with_rules(alloc, line);
     with_files(alloc, line)
+}
+
+fn run_of_line<'a>(alloc: Global) -> Result<CommandLine<'a>, AllocError>
+    ensures { IsLine run_of_line result }
+{
+    let line = with_rules(alloc, new_line(alloc, RUN_OF, RUN_OF_ABOUT));
+    with_progress(alloc, line, PROGRESS_ABOUT)
 }
 
 fn outcomes_line<'a>(alloc: Global) -> Result<CommandLine<'a>, AllocError>
@@ -521,7 +548,7 @@ fn running_line<'a>(alloc: Global) -> Result<CommandLine<'a>, AllocError>
     ensures { IsLine running_line result }
 {
     let line = with_command(judging_line(alloc), run_line(alloc));
-    with_command(line, plain_line(alloc, RUN_OF, RUN_OF_ABOUT))
+    with_command(line, run_of_line(alloc))
 }
 
 /// The commands of `running_line`, with `explain`, `show` and `outcomes`.

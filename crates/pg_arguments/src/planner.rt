@@ -12,6 +12,7 @@ ghost use Rattle.pg_arguments.specs.Commands.{mixes_files, mixes_trace, loads_al
 ghost use Rattle.pg_arguments.specs.Commands.{Reads, IsSelectionOf, IsTellingOf, IsAskedOfCheck};
 ghost use Rattle.pg_arguments.specs.Commands.{IsAskedOfCertify, IsAskedOfRun, IsAskedOfExplain};
 ghost use Rattle.pg_arguments.specs.Commands.{IsAskedOfShow, IsAskedOfOutcomes, IsAskedOfMerge};
+ghost use Rattle.pg_arguments.specs.Commands.{mixes_rules};
 ghost use Rattle.pg_arguments.specs.Commands.{IsCommandOf, IsPlanOf, Asks, AsksOnly};
 ghost use Rattle.pg_arguments.specs.Commands.{AreCheckersOf, AsksHelp, AsksVersion, NamesHelp};
 ghost use Rattle.pg_arguments.specs.Commands.{NamesVersion, AreTaken, IsHelp, IsVersion, IsFault};
@@ -22,13 +23,14 @@ ghost use Rattle.pg_arguments.specs.declared.request.Plan.{Plan as Planned};
 use crate::checkers::Checkers;
 use crate::lines::{
     ALL, BYTES, CERTIFY, CHECK, CHECKERS, CPU, ERROR, EVENT, EXPLAIN, FILE, FIRST, FROM, JSON,
-    LIMIT, LOADS, LOG, MERGE, MOST, ORDER, OUTCOMES, OUTPUT, PAGE, PROGRESS, QUIET, RUN, RUN_OF,
-    SHOW, SINGLE, SVG, TO, TRACE, UPGRADE, WORD, command_line,
+    LIMIT, LOADS, LOG, MERGE, MOST, ORDER, OUTCOMES, OUTPUT, PAGE, PROGRESS, QUIET, RULES, RUN,
+    RUN_OF, SHOW, SINGLE, SVG, TO, TRACE, UPGRADE, WORD, command_line,
 };
 use crate::request::{
     CertifyOptions, CheckOptions, Command, ExplainOptions, Invocation, OutcomesOptions, Plan,
     RunOptions, ShowOptions, Telling, Usage,
 };
+use crate::ruled::rules_asked;
 use crate::values::{
     checkers_of, cpu_of, event_of, most_of, number_of, page_of, telling_of, word_of,
 };
@@ -44,7 +46,8 @@ const VERSION_TEXT: &str = "pcid-audit 0.3.0 (record versions 1 to 4)\n";
 const PAST_EVENTS: u32 = 4_294_967_295;
 
 const NO_NUMBER: &str = "error: a number is given by digits alone, an address by 0x and 1 to 16 \
-    hexadecimal digits,\n  and a page by an address that is canonical\n\n\
+    hexadecimal digits,\n  a page by an address that is canonical, and rules by intel, amd or lax, \
+    and then\n  -RULE or +RULE behind commas\n\n\
     For more information, try '--help'.\n";
 
 const NO_TELLING: &str = "error: --most goes with --all alone, by digits alone, and --svg goes \
@@ -55,7 +58,7 @@ const CONFLICT: &str = "error: --json, --bytes, --order, --svg, --trace and --fi
     another, and so do\n  --first and each of --all and --checkers, --trace and each of --all, \
     --event and --loads,\n  --single and --progress, and --quiet and each of --output, --bytes, \
     --order, --svg and\n  --trace; several files exclude --json, --bytes, --svg and --trace; \
-    --loads goes with --page\n\n\
+    --loads goes with --page;\n  --rules excludes --bytes, --first and --trace\n\n\
     For more information, try '--help'.\n";
 
 /// The version, which is given by a text of this program's own.
@@ -189,6 +192,17 @@ fn loads_alone(own: &ArgMatches<'_>) -> bool
     has(own, LOADS) && text_of(own, PAGE).is_none()
 }
 
+/// Whether other rules are asked for, and a form that is written of all rules alone.
+fn mixes_rules(own: &ArgMatches<'_>) -> bool
+    ensures { result ≡ mixes_rules (options_of own.now) }
+{
+    let ruled = text_of(own, RULES).is_some();
+    let bytes = has(own, BYTES);
+    let first = has(own, FIRST);
+    let trace = has(own, TRACE);
+    ruled && (bytes || first || trace)
+}
+
 /// Whether of two options one has no effect beside the other, or one without another.
 #[tactic(auto, unfolding(crate::specs::Commands::has_conflict))]
 fn has_conflict(own: &ArgMatches<'_>) -> bool
@@ -207,6 +221,7 @@ fn has_conflict(own: &ArgMatches<'_>) -> bool
         || is_unheard(own)
         || mixes_files(own)
         || loads_alone(own)
+        || mixes_rules(own)
 }
 
 /// Which events the options ask for.
@@ -350,6 +365,7 @@ fn plan_of(matches: &ArgMatches<'_>) -> Option<Plan>
         command: command_of(name, own)?,
         progress: has(own, PROGRESS),
         quiet: has(own, QUIET),
+        rules: rules_asked(text_of(own, RULES))?,
     })
 }
 

@@ -1,4 +1,5 @@
 use crate::checkers::Checkers;
+use pg_entry::Rules;
 use pg_event::Selection;
 
 /// What `explain` tells of bad events.
@@ -125,6 +126,9 @@ pub enum Command {
 #[derive(Clone, Copy, Debug, PartialEq, Eq)]
 pub struct Plan {
     pub command: Command,
+    /// Which rules the processors of a record are held to. They are all rules but of `check`,
+    /// `certify`, `explain`, `show` and `run-of`, the commands that have the option.
+    pub rules: Rules,
     /// Whether it is told meanwhile how many events have been read, or `run` has recorded. It is
     /// never asked of `show`, of `merge`, and of `run` on a single thread.
     pub progress: bool,

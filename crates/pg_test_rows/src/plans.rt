@@ -2,6 +2,7 @@ use pg_arguments::{
     CertifyOptions, CheckOptions, Checkers, Command, ExplainOptions, Invocation, OutcomesOptions,
     Plan, RunOptions, ShowOptions, Telling, Usage, plan,
 };
+use pg_entry::Rules;
 use pg_event::Selection;
 use std::alloc::Global;
 use std::test::Fail;
@@ -22,6 +23,7 @@ fn quiet(command: Command) -> Plan {
         command,
         progress: false,
         quiet: false,
+        rules: Rules::ALL,
     }
 }
 
@@ -74,6 +76,7 @@ fn checked(number: u32, all: bool, progress: bool) -> Option<Plan> {
         command: Command::Check(asked),
         progress,
         quiet: false,
+        rules: Rules::ALL,
     })
 }
 
@@ -184,6 +187,7 @@ fn run(number: u32, options: [bool; 3]) -> Option<Plan> {
         command: Command::Run(asked),
         progress,
         quiet: false,
+        rules: Rules::ALL,
     })
 }
 
@@ -301,6 +305,7 @@ fn plans_of_explain(rt: HostRuntime) {
             command: Command::Explain(asked),
             progress,
             quiet: false,
+            rules: Rules::ALL,
         });
         assert!(rt; asks_for(rt.alloc(), words, wanted), "{words:?}");
     }
@@ -345,6 +350,7 @@ fn plans_of_plain_commands(rt: HostRuntime) {
             command,
             progress,
             quiet: false,
+            rules: Rules::ALL,
         });
         assert!(rt; asks_for(rt.alloc(), words, wanted), "{words:?}");
     }
@@ -431,6 +437,7 @@ fn plans_of_the_status_alone(rt: HostRuntime) {
             command: plain_check(),
             progress: false,
             quiet: true,
+            rules: Rules::ALL,
         });
         assert!(rt; asks_for(rt.alloc(), words, wanted), "{words:?}");
     }

@@ -8,4 +8,5 @@ returns c =
     let first = c.with_option-line-4.ensures _ _ order c.switch-3.ensures in
     let json = c.with_option-line-5.ensures _ _ first c.switch-4.ensures in
     let trace = c.with_option-line-6.ensures _ _ json c.switch-5.ensures in
-    c.with_files.ensures _ trace
+    let rules = c.with_rules-line.ensures _ trace in
+    c.with_files.ensures _ rules

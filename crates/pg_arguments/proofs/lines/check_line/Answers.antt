@@ -6,4 +6,5 @@ returns c =
     let all = c.with_option-line-2.ensures _ _ checkers c.switch.ensures in
     let first = c.with_option-line-3.ensures _ _ all c.switch-2.ensures in
     let json = c.with_option-line-4.ensures _ _ first c.switch-3.ensures in
-    c.with_files.ensures _ json
+    let rules = c.with_rules-line.ensures _ json in
+    c.with_files.ensures _ rules

@@ -8,4 +8,5 @@ returns c =
     let event = c.with_option-line-3.ensures _ _ svg c.number_option.ensures in
     let json = c.with_option-line-4.ensures _ _ event c.switch-3.ensures in
     let trace = c.with_option-line-5.ensures _ _ json c.switch-4.ensures in
-    c.with_files.ensures _ trace
+    let rules = c.with_rules-line.ensures _ trace in
+    c.with_files.ensures _ rules

@@ -1,0 +1,98 @@
+//! The rules that the value of `--rules` names.
+
+ghost use Rattle.std.specs.Prelude.{◌≡◌, ◌<◌, ◌∷◌, length, IfSome, option_map};
+ghost use Rattle.std.specs.Option.{option_copied};
+ghost use Rattle.std.specs.Str.{bytes_eq};
+ghost use Rattle.pg_arguments.specs.Ruled.{preset_of, rule_of, changed, changed_all, pieces};
+ghost use Rattle.pg_arguments.specs.Ruled.{pieces_behind, rules_asked};
+
+use pg_entry::Rules;
+
+fn same_bytes(xs: &[u8], ys: &[u8]) -> bool
+    ensures { result ≡ bytes_eq xs.now ys.now }
+{
+    xs == ys
+}
+
+/// The rules of a preset.
+fn preset_of(name: &[u8]) -> Option<Rules>
+    ensures { result ≡ preset_of name.now }
+{
+    if same_bytes(name, b"intel") {
+        return Some(Rules::ALL);
+    }
+    if same_bytes(name, b"amd") {
+        return Some(Rules::AMD);
+    }
+    if same_bytes(name, b"lax") {
+        return Some(Rules::LAX);
+    }
+    None
+}
+
+/// The rule of a name.
+fn rule_of(name: &[u8]) -> Option<Rules>
+    ensures value { option_map (λ r. r.0) result ≡ rule_of name.now }
+    ensures one { IfSome result (λ r. r.0 < 64) }
+{
+    if same_bytes(name, b"fault-translations") {
+        return Some(Rules::FAULT_TRANSLATIONS);
+    }
+    if same_bytes(name, b"fault-globals") {
+        return Some(Rules::FAULT_GLOBALS);
+    }
+    if same_bytes(name, b"fault-structures") {
+        return Some(Rules::FAULT_STRUCTURES);
+    }
+    if same_bytes(name, b"invlpg-structures") {
+        return Some(Rules::INVLPG_STRUCTURES);
+    }
+    if same_bytes(name, b"invpcid-structures") {
+        return Some(Rules::INVPCID_STRUCTURES);
+    }
+    None
+}
+
+/// The rules without one, after `-`, or with one, after `+`.
+fn changed(rules: Rules, word: &[u8]) -> Option<Rules>
+    ensures { result ≡ changed rules word.now }
+{
+    match word {
+        [b'-', name @ ..] => Some(rules.without(rule_of(name)?)),
+        [b'+', name @ ..] => Some(rules.also(rule_of(name)?)),
+        _ => None,
+    }
+}
+
+/// The piece before the first comma, and what follows it, if there is one.
+fn cut(text: &[u8]) -> (&[u8], Option<&[u8]>)
+    ensures pieces { pieces text.now ≡ result.0.now ∷ pieces_behind (option_copied result.1) }
+    ensures less { IfSome result.1 (λ rest. length rest.now < length text.now) }
+{
+    match text.iter().position(|byte| *byte == b',') {
+        Some(at) => (&text[..at], Some(&text[at + 1..])),
+        None => (text, None),
+    }
+}
+
+/// The rules after all changes that words between commas say.
+fn changed_all(rules: Rules, words: Option<&[u8]>) -> Option<Rules>
+    ensures { result ≡ changed_all (pieces_behind (option_copied words)) rules }
+{
+    let Some(text) = words else {
+        return Some(rules);
+    };
+    let (word, rest) = cut(text);
+    changed_all(changed(rules, word)?, rest)
+}
+
+/// The rules that the value of `--rules` names; all of them where none is given.
+pub(crate) fn rules_asked(text: Option<&str>) -> Option<Rules>
+    ensures { result ≡ rules_asked (option_map (λ s. s.now) text.entry) }
+{
+    let Some(text) = text else {
+        return Some(Rules::ALL);
+    };
+    let (name, rest) = cut(text.as_bytes());
+    changed_all(preset_of(name)?, rest)
+}
