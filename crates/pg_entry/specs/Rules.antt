@@ -24,21 +24,16 @@ invlpg_structures = 8
 abbrev pub invpcid_structures : ℕ
 invpcid_structures = 16
 
--- a write is done only through a translation whose leaf had D when it was made (profile)
-abbrev pub dirty_translations : ℕ
-dirty_translations = 32
-
 -- the rules by their names, each with its flag
 abbrev pub rule_names : List (List ℕ × ℕ)
 rule_names =
     (codes "FAULT_TRANSLATIONS", fault_translations) ∷ (codes "FAULT_GLOBALS", fault_globals)
     ∷ (codes "FAULT_STRUCTURES", fault_structures) ∷ (codes "INVLPG_STRUCTURES", invlpg_structures)
-    ∷ (codes "INVPCID_STRUCTURES", invpcid_structures)
-    ∷ (codes "DIRTY_TRANSLATIONS", dirty_translations) ∷ []
+    ∷ (codes "INVPCID_STRUCTURES", invpcid_structures) ∷ []
 
 -- all of them
 abbrev pub all_rules : Rules
-all_rules = record { 0 = 63 }
+all_rules = record { 0 = 31 }
 
 -- those that AMD's manual promises, as far as memory goes: all but what a page fault drops
 abbrev pub amd_rules : Rules
@@ -50,7 +45,7 @@ lax_rules = record { 0 = 0 }
 
 -- all of some rules but one
 abbrev pub without : ℕ → Rules → Rules
-without rule rules = record { 0 = bit_and rules.0 (63 - rule) }
+without rule rules = record { 0 = bit_and rules.0 (31 - rule) }
 
 -- some rules and one more
 abbrev pub also : ℕ → Rules → Rules

@@ -11,7 +11,6 @@ bitflag_items! {
         const FAULT_STRUCTURES = 4;
         const INVLPG_STRUCTURES = 8;
         const INVPCID_STRUCTURES = 16;
-        const DIRTY_TRANSLATIONS = 32;
     }
 }
 
@@ -39,21 +38,21 @@ impl Flags for Rules {
 
 impl Rules {
     /// All rules: a processor of Intel's manual.
-    pub const ALL: Rules = Rules(63);
+    pub const ALL: Rules = Rules(31);
 
     /// What AMD's manual promises, as far as memory goes (volume 2, section 5.5): all but what a page
     /// fault drops.
-    pub const AMD: Rules = Rules(56);
+    pub const AMD: Rules = Rules(24);
 
     /// None of those that can be left out.
     pub const LAX: Rules = Rules(0);
 
     /// All of them but this one.
     pub fn without(self, rule: Rules) -> Rules
-        requires { rule.0 ≤ 63 }
+        requires { rule.0 ≤ 31 }
         ensures { result ≡ without rule.0 self }
     {
-        Rules(self.0 & (63 - rule.0))
+        Rules(self.0 & (31 - rule.0))
     }
 
     /// They and this one.
