@@ -18,18 +18,21 @@ DONE, USAGE, UNOPENED = 0, 64, 66
 ALIKE = 0.7
 MORE = "\n\nFor more information, try '--help'.\n"
 NO_NUMBER = ("error: a number is given by digits alone, an address by 0x and 1 to 16 hexadecimal digits,\n"
-             "  and a page by an address that is canonical" + MORE)
+             "  a page by an address that is canonical, and rules by intel, amd or lax, and then\n"
+             "  -RULE or +RULE behind commas" + MORE)
 NO_TELLING = ("error: --most goes with --all alone, by digits alone, and --svg goes without --all;\n"
               "  --event goes without --all, --most and --svg, by digits alone" + MORE)
 CONFLICT = ("error: --json, --bytes, --order, --svg, --trace and --first exclude one another, and so do\n"
             "  --first and each of --all and --checkers, --trace and each of --all, --event and --loads,\n"
             "  --single and --progress, and --quiet and each of --output, --bytes, --order, --svg and\n"
-            "  --trace; several files exclude --json, --bytes, --svg and --trace; --loads goes with --page" + MORE)
+            "  --trace; several files exclude --json, --bytes, --svg and --trace; --loads goes with --page;\n"
+            "  --rules excludes --bytes, --first and --trace" + MORE)
 # Options of which one has no effect beside another.
 EXCLUSIVE = (*itertools.combinations(("json", "bytes", "order", "svg", "trace", "first"), 2), ("first", "all"),
              ("first", "checkers"), ("trace", "all"), ("trace", "event"), ("trace", "loads"),
              ("single", "progress"),
-             *(("quiet", name) for name in ("output", "bytes", "order", "svg", "trace")))
+             *(("quiet", name) for name in ("output", "bytes", "order", "svg", "trace")),
+             *(("rules", name) for name in ("bytes", "first", "trace")))
 # Options that write no text of lines, which could begin with a file's name.
 UNMIXED = {"json", "bytes", "svg", "trace"}
 # Commands that write bytes which are no text, with --bytes or always.
@@ -44,6 +47,8 @@ NUMBERS = {"checkers": (1, 64), "cpu": (0, 65535), "most": (1, 1_000_000), "from
            "error": EVENTS, "event": EVENTS, "limit": (1, 1_000_000)}
 ADDRESSES = ("page", "word")
 NAMES = ("output",)
+PRESETS = ("intel", "amd", "lax")
+RULES = ("fault-translations", "fault-globals", "fault-structures", "invlpg-structures", "invpcid-structures")
 
 
 class Answer(Exception):
@@ -181,7 +186,7 @@ class Reader:
 
     def look_at(self, name, value):
         """Refuses a value that the command line does not take."""
-        if name in ADDRESSES or name in NAMES:
+        if name in ADDRESSES or name in NAMES or name == "rules":
             return
         if name not in NUMBERS:
             raise Unsure
@@ -275,6 +280,12 @@ def is_canonical(address):
     return address >> 47 in (0, 0x1FFFF)
 
 
+def are_rules(value):
+    """Whether a value of --rules names rules."""
+    preset, *changes = value.split(",")
+    return preset in PRESETS and all(it[:1] in ("-", "+") and it[1:] in RULES for it in changes)
+
+
 def is_torn(given):
     """Whether options ask `explain` to tell different things, or tell how many of what is not told."""
     return ("most" in given and "all" not in given or {"svg", "all"} <= given or
@@ -290,7 +301,7 @@ def look_at_plan(name, given, files):
     is_signed = {option for option in NUMBERS if (given.get(option) or "").startswith("+")}
     if name == "explain" and (is_torn({*given}) or is_signed & {"most", "event"}):
         raise Answer(USAGE, errors=NO_TELLING)
-    if is_signed:
+    if is_signed or not are_rules(given.get("rules", PRESETS[0])):
         raise Answer(USAGE, errors=NO_NUMBER)
     for option in ADDRESSES:
         value = given.get(option)

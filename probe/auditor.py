@@ -7,6 +7,14 @@ import tempfile
 from probe.image import TOP, Stop
 
 
+HELD = []  # words of `certify` that say which rules processors are held to
+
+
+def hold_to(rules):
+    """From here on `certify` holds processors to these rules, a value of its option --rules; None of all."""
+    HELD[:] = ["--rules", rules] if rules else []
+
+
 def program():
     """What the environment variable PCID_AUDIT names, or ./pcid-audit."""
     return os.path.abspath(os.environ.get("PCID_AUDIT") or os.path.join(TOP, "pcid-audit"))
@@ -29,5 +37,5 @@ def certify(data, words=(), by=None):
     with tempfile.TemporaryFile() as file:
         file.write(data)
         file.seek(0)
-        done = subprocess.run([by or program(), "certify", *words], stdin=file, capture_output=True, check=False)
+        done = subprocess.run([by or program(), "certify", *HELD, *words], stdin=file, capture_output=True, check=False)
     return done.returncode, done.stdout, done.stderr

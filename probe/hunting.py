@@ -22,7 +22,7 @@ MOST_REPLAYED = 8  # forms of what is left of a record that are tried in one boo
 UNDECIDED = "undecided"
 # What a hunt says of all its runs.
 WORDS = ("system", "events", "processors", "version", "without", "limit", "spread", "threads",
-         "control", "at_once", "parameters", "kernel", "emulator_threads", "inside")
+         "control", "at_once", "parameters", "kernel", "emulator_threads", "inside", "rules")
 
 
 class Plan(types.SimpleNamespace):
@@ -117,6 +117,7 @@ class Plan(types.SimpleNamespace):
                                                                  system == "xen") else []
         words += ["--kernel", self.kernel] if self.kernel else []
         words += ["--in", self.inside] if self.inside else []
+        words += ["--rules", self.rules] if self.rules else []
         words += ["--threads"] * self.threads + ["--emulator-threads"] * self.emulator_threads
         return shlex.join(words)
 

@@ -223,6 +223,11 @@ def add_common_options(words, events=2000):
                        help="leave these kinds out, separated by commas: " + " ".join(KINDS))
 
 
+def add_rules_option(words):
+    words.add_argument("--rules", metavar="RULES", help="the rules that certify holds processors to, as its option "
+                                                        "--rules has them: intel (default), amd or lax, then ,-RULE")
+
+
 def add_folder_option(words, name="folder"):
     words.add_argument("--in", dest=name, metavar="FOLDER",
                        help="use the emulator of that folder, which probe/suite has filled")

@@ -1,5 +1,6 @@
 -- Answers as text.
-use Rattle.std.specs.Prelude.{ℕ, List, [], ◌∷◌, ◌++◌, Some, codes, decimal}
+use Rattle.std.specs.Prelude.{ℕ, Bool, true, false, if◌then◌else◌, List, [], ◌∷◌, ◌++◌, Some, codes, decimal}
+use Rattle.pg_entry.specs.declared.Rules.{Rules}
 use Rattle.pg_event.specs.declared.event.Event.{Event}
 use Rattle.pg_explain.specs.declared.explainer.Explanation.{Explanation}
 use Rattle.pg_explain.specs.declared.tallier.Tally.{Tally}
@@ -15,6 +16,7 @@ use Rattle.pg_answers.specs.declared.answer.Rejection.{Rejection as Rejected}
 use Rattle.pg_answers.specs.declared.answer.Summary.{Summary as Summed}
 use Rattle.pg_answers.specs.AllowedTexts.{allowed_lines_of}
 use Rattle.pg_answers.specs.OutcomeTexts.{event_outcomes_text}
+use Rattle.pg_answers.specs.Ruled.{asked_lines, resting_lines, rules_line}
 
 -- ---- the summary
 
@@ -51,16 +53,32 @@ abbrev pub rejection_text : Rejected → List ℕ
 rejection_text x =
     denied_report x.denial.number x.events x.segments
     ++ denial_text_by (Some x.event) x.takers x.denial ++ allowed_lines_of x.allowed
+    ++ resting_lines (codes "") x.rests
 
 -- ---- an answer
 
 abbrev pub answer_text : Answer → List ℕ
 answer_text (Report report) = report_text report
 answer_text (Summary report s) = report_text report ++ summary_text s
-answer_text (Cause report r x allowed) =
+answer_text (Cause report r x allowed rests) =
     report_text report ++ explanation_text r.events x ++ allowed_lines_of allowed
+    ++ asked_lines rests
 answer_text (Causes report r xs s) =
     (report_text report ++ causes_text r.events xs.items) ++ summary_text s
 answer_text (Rejection x) = rejection_text x
 answer_text (Events r selection) = shown_text selection r.events
 answer_text (Outcomes x) = event_outcomes_text x
+
+-- ---- and where processors are held to some rules: a report names them, where they are not all
+
+abbrev pub is_report : Answer → Bool
+is_report (Report report) = true
+is_report (Summary report s) = true
+is_report (Cause report r x allowed rests) = true
+is_report (Causes report r xs s) = true
+is_report (Rejection x) = true
+is_report (Events r selection) = false
+is_report (Outcomes x) = false
+
+abbrev pub ruled_text : Rules → Answer → List ℕ
+ruled_text rules x = if is_report x then answer_text x ++ rules_line rules else answer_text x

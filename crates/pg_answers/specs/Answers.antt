@@ -1,6 +1,8 @@
 -- What is answered of a record with one order, whatever the format is in which it is written.
 use Rattle.std.specs.Prelude.{◌≡◌, ◌<◌, ℕ, List, [], ◌∷◌, length, take, Option, Some, None}
 use Rattle.std.specs.Prelude.{Result, Ok, Err, slice_get, Bool, true, false, nat_le, ◌≤◌, ◌⊎◌}
+use Rattle.std.specs.Prelude.{◌==◌, if◌then◌else◌}
+use Rattle.pg_entry.specs.Rules.{all_rules}
 use Rattle.pg_entry.specs.declared.Rules.{Rules}
 use Rattle.pg_event.specs.declared.event.Event.{Event}
 use Rattle.pg_event.specs.declared.event.Reason.{Reason}
@@ -20,6 +22,8 @@ use Rattle.pg_report.specs.declared.error.AuditError.{AuditError}
 use Rattle.pg_report.specs.declared.report.Report.{Report as Reported}
 use Rattle.pg_report.specs.declared.report.Verdict.TheVariants.{Yes}
 use Rattle.pg_report.specs.Text.{report_of}
+use Rattle.pg_outcomes.specs.declared.resting.Rests.{Rests}
+use Rattle.pg_outcomes.specs.Resting.{RestsOn, RestsOnAt}
 use Rattle.pg_answers.specs.Status.{error_status, verdict_status}
 use Rattle.pg_answers.specs.declared.answer.Answer.{Answer}
 use Rattle.pg_answers.specs.declared.answer.Answer.TheVariants.{Report, Summary, Cause, Causes}
@@ -68,6 +72,7 @@ pub record TellsDenial (r : Recorded) (n : ℕ) (x : Rejected) : Type 0 where
   pub allowed : AreAllowed r n x.event x.allowed
   pub count : x.events ≡ length r.events
   pub segments : x.segments ≡ segment_count r
+  pub rests : RestsOn r.head r.events n x.event x.rests
 
 -- the event that is denied, and the cause
 abbrev pub IsRejection : Recorded → Rejected → Type 0
@@ -88,13 +93,20 @@ pub record IsSummary (xs : List Bad) (s : Summed) : Type 0 where
   pub count : s.bad_events ≡ length xs
   pub tallies : AreTallies xs s.tallies.items
 
+-- which rules it rests on that no moments witness event n; nothing where other moments do
+abbrev pub AreRestsAt : Recorded → ℕ → Option (List ℕ) → Option Rests → Type 0
+AreRestsAt r n None None = ⊥
+AreRestsAt r n None (Some rests) = RestsOnAt r.head r.events n rests
+AreRestsAt r n (Some moments) None = Unit {0}
+AreRestsAt r n (Some moments) (Some rests) = ⊥
+
 -- ---- answers
 
 -- a yes, or the event of a no and its cause
 abbrev pub IsCertificate : Recorded → Answer → Type 0
 IsCertificate r (Report report) = IsCertifiedRecord r × (report ≡ certified_report r)
 IsCertificate r (Summary report s) = ⊥
-IsCertificate r (Cause report q x allowed) = ⊥
+IsCertificate r (Cause report q x allowed rests) = ⊥
 IsCertificate r (Causes report q xs s) = ⊥
 IsCertificate r (Rejection x) = IsRejection r x
 IsCertificate r (Events q selection) = ⊥
@@ -106,10 +118,10 @@ abbrev pub IsCause : Recorded → Answer → Type 0
 IsCause r (Report report) =
     (report ≡ report_of r) × (first_bad r.head r.events ≡ None)
 IsCause r (Summary report s) = ⊥
-IsCause r (Cause report q x allowed) =
+IsCause r (Cause report q x allowed rests) =
     (report ≡ report_of r) × (q ≡ r) × (n : ℕ) × (reason : Reason)
     × (first_bad r.head r.events ≡ Some (n, reason)) × IsExplained r.head r.events n x
-    × AreAllowedAt r n allowed × HasRunBefore r n
+    × AreAllowedAt r n allowed × HasRunBefore r n × AreRestsAt r n x.other rests
 IsCause r (Causes report q xs s) = ⊥
 IsCause r (Rejection x) = ⊥
 IsCause r (Events q selection) = ⊥
@@ -126,7 +138,7 @@ IsExplanation r x = IsExplanationOf (is_unnamed r.events) r x
 abbrev pub IsSummed : Recorded → Answer → Type 0
 IsSummed r (Report report) = ⊥
 IsSummed r (Summary report s) = (report ≡ report_of r) × IsSummary (bads r.head r.events) s
-IsSummed r (Cause report q x allowed) = ⊥
+IsSummed r (Cause report q x allowed rests) = ⊥
 IsSummed r (Causes report q xs s) = ⊥
 IsSummed r (Rejection x) = ⊥
 IsSummed r (Events q selection) = ⊥
@@ -135,7 +147,7 @@ IsSummed r (Outcomes x) = ⊥
 abbrev pub AreCauses : ℕ → Recorded → Answer → Type 0
 AreCauses most r (Report report) = ⊥
 AreCauses most r (Summary report s) = ⊥
-AreCauses most r (Cause report q x allowed) = ⊥
+AreCauses most r (Cause report q x allowed rests) = ⊥
 AreCauses most r (Causes report q xs s) =
     (report ≡ report_of r) × (q ≡ r)
     × AreExplanations r.head r.events (take most (bads r.head r.events)) xs.items
@@ -148,7 +160,7 @@ AreCauses most r (Outcomes x) = ⊥
 abbrev pub IsOutcomesAnswerAt : Recorded → ℕ → ℕ → Answer → Type 0
 IsOutcomesAnswerAt r n most (Report report) = ⊥
 IsOutcomesAnswerAt r n most (Summary report s) = ⊥
-IsOutcomesAnswerAt r n most (Cause report q x allowed) = ⊥
+IsOutcomesAnswerAt r n most (Cause report q x allowed rests) = ⊥
 IsOutcomesAnswerAt r n most (Causes report q xs s) = ⊥
 IsOutcomesAnswerAt r n most (Rejection x) = IsRejection r x × (x.denial.number < n)
 IsOutcomesAnswerAt r n most (Events q selection) = ⊥
@@ -201,15 +213,20 @@ IsAnswer (ExplainAll most) r x = AreCauses most r x
 IsAnswer (Show selection) r x = x ≡ Events r selection
 IsAnswer (questions.Outcomes asked most) r x = IsOutcomesAnswer asked most r x
 
+-- A record as it was read, where processors are held to all rules, as in every record that is read;
+-- and else where they are held to these.
+abbrev pub ruled : Rules → Recorded → Recorded
+ruled rules r = if rules.0 == all_rules.0 then r else held_to rules r
+
 -- and where its processors are held to these rules
 abbrev pub IsAnswerUnder : Rules → Question → Recorded → Answer → Type 0
-IsAnswerUnder rules question r x = IsAnswer question (held_to rules r) x
+IsAnswerUnder rules question r x = IsAnswer question (ruled rules r) x
 
 -- the event that an answer of `certify` names, if it is no
 abbrev pub denied_in : Answer → Option ℕ
 denied_in (Report report) = None
 denied_in (Summary report s) = None
-denied_in (Cause report r x allowed) = None
+denied_in (Cause report r x allowed rests) = None
 denied_in (Causes report r xs s) = None
 denied_in (Rejection x) = Some x.denial.number
 denied_in (Events r selection) = None
@@ -225,7 +242,7 @@ event_outcomes_status (NoAccess told) = 2
 abbrev pub status_of : Answer → ℕ
 status_of (Report report) = verdict_status report.verdict
 status_of (Summary report s) = verdict_status report.verdict
-status_of (Cause report r x allowed) = 1
+status_of (Cause report r x allowed rests) = 1
 status_of (Causes report r xs s) = verdict_status report.verdict
 status_of (Rejection x) = 1
 status_of (Events r selection) = 0

@@ -13,6 +13,7 @@ pub mod Giving
 pub mod Outcomes
 pub mod OutcomeTexts
 pub mod AllowedTexts
+pub mod Ruled
 pub mod Answers
 pub mod AnswerTexts
 pub mod Certificates

@@ -7,7 +7,7 @@ use crate::statuses::{NO, REFUSED, YES, error_status, verdict_status};
 use pg_check::History;
 use pg_event::{Event, Moments, Selection};
 use pg_explain::{Denial, Explanation, Takers, Tally, WalkEntry};
-use pg_outcomes::Allowed;
+use pg_outcomes::{Allowed, Rests};
 use pg_report::{AuditError, Report};
 
 /// What the bad events of a record have in common.
@@ -35,6 +35,8 @@ pub struct Rejection {
     /// Every outcome that it may have in the place of its own, in rising order, where it is an
     /// access.
     pub allowed: Option<Vec<Allowed>>,
+    /// Which rules the rejection rests on.
+    pub rests: Rests,
 }
 
 /// The flags without which an access does not have an outcome (Intel SDM, vol. 3, 4.8).
@@ -105,9 +107,10 @@ pub enum Answer {
     Report(Report),
     /// The report, and a summary of the bad events.
     Summary(Report, Summary),
-    /// The report of a no, the record, the cause of its first bad event, and every outcome that it
-    /// may have in the place of its own, where it is an access.
-    Cause(Report, History, Explanation, Option<Vec<Allowed>>),
+    /// The report of a no, the record, the cause of its first bad event, every outcome that it may
+    /// have in the place of its own, where it is an access, and where no other moments witness it,
+    /// which rules that rests on.
+    Cause(Report, History, Explanation, Option<Vec<Allowed>>, Option<Rests>),
     /// The report, the record, the causes of its first bad events, and a summary of all of them.
     Causes(Report, History, Vec<Explanation>, Summary),
     /// Why no run has the record's events.

@@ -17,7 +17,7 @@ use pg_certify::StreamingCertifier;
 use pg_check::History;
 use pg_event::Event;
 use pg_explain::{Takers, denials_among_kept, deny, deny_event, takers_in};
-use pg_outcomes::outcomes_among_kept;
+use pg_outcomes::{outcomes_among_kept, rests_among_kept, rests_in, rests_on};
 use pg_search::{Last, Seen, dropped_by_a_change, taken_by_a_change};
 use std::alloc::{AllocError, Global};
 
@@ -35,6 +35,7 @@ pub(crate) fn denial_in(
     let event = events[number as usize];
     let takers = takers_in(events, &denial);
     let allowed = allowed_at(alloc, &Seen::of(history), number as u32, &event)?;
+    let rests = rests_in(alloc, history, number)?;
     Ok(Rejection {
         events: history.len(),
         segments: history.segments(),
@@ -42,6 +43,7 @@ pub(crate) fn denial_in(
         event,
         takers,
         allowed,
+        rests,
     })
 }
 
@@ -84,6 +86,7 @@ pub(crate) fn denial_by(
     outcomes_among_kept();
     taken_by_a_change();
     dropped_by_a_change();
+    rests_among_kept();
     let certifying = account.certifying();
     let seen = Seen::among(certifying.kept());
     let denial = deny_event(alloc, &seen, number as u32, event)?;
@@ -92,6 +95,7 @@ pub(crate) fn denial_by(
         dropped: dropped_of(account, denial.dropped),
     };
     let allowed = allowed_at(alloc, &seen, number as u32, event)?;
+    let rests = rests_on(alloc, certifying.kept(), number as u32, event)?;
     Ok(Rejection {
         events: certifying.len(),
         segments: certifying.segments(),
@@ -99,5 +103,6 @@ pub(crate) fn denial_by(
         event: *event,
         takers,
         allowed,
+        rests,
     })
 }

@@ -1,8 +1,9 @@
 //! A record's report, and the cause of a rejection.
 
-ghost use Rattle.std.specs.Prelude.{◌≡◌, ◌<◌, IfErr, IfOk, length};
+ghost use Rattle.std.specs.Prelude.{◌≡◌, ◌<◌, true, IfErr, IfOk, IfSome, IfNone, length, slice_get};
 ghost use Rattle.pg_event.specs.Witness.{first_bad};
-ghost use Rattle.pg_answers.specs.Answers.{IsCause, IsExplanation, IsExplanationAt};
+ghost use Rattle.pg_search.specs.Law.{CanBeWitnessed, names_moments};
+ghost use Rattle.pg_answers.specs.Answers.{AreRestsAt, IsCause, IsExplanation, IsExplanationAt};
 ghost use Rattle.pg_answers.specs.Answers.{IsDeniedUpTo, is_bad_up_to};
 ghost use Rattle.pg_answers.specs.Outcomes.{AreAllowedAt};
 ghost use Rattle.pg_answers.specs.Found.{MayFail};
@@ -18,7 +19,8 @@ use crate::unnamed::is_unnamed;
 use pg_arguments::Checkers;
 use pg_certify::{certified_events_run, denied_events_have_no_run, first_denied};
 use pg_check::History;
-use pg_outcomes::Allowed;
+use pg_event::Moments;
+use pg_outcomes::{Allowed, Rests, rests_in};
 use pg_report::{AuditError, Verdict, report_of};
 use pg_run_of::accepted_events_run;
 use pg_search::Seen;
@@ -39,9 +41,28 @@ fn allowed_in(
     allowed_at(alloc, &Seen::of(history), number as u32, &event)
 }
 
+/// What the rejection of the event with this number rests on, where no other moments would do.
+fn rests_of(
+    alloc: Global,
+    history: &History,
+    number: u64,
+    other: &Option<Moments>,
+) -> Result<Option<Rests>, AllocError>
+    requires within { number < length history.now.events }
+    requires names { IfSome (slice_get history.now.events number) (λ e. names_moments e ≡ true) }
+    requires other { IfNone other.now
+        (CanBeWitnessed history.now.head history.now.events number → ⊥) }
+    ensures { IfOk result (AreRestsAt history.now number other.now) }
+{
+    match other {
+        Some(_) => Ok(None),
+        None => Ok(Some(rests_in(alloc, history, number)?)),
+    }
+}
+
 /// The report of a history, and the cause if it is rejected: the first bad event, what its moments
-/// read, what the reason found, whether other moments would do, and which outcomes are allowed in
-/// the place of its own.
+/// read, what the reason found, whether other moments would do, which outcomes are allowed in the
+/// place of its own, and which rules it rests on that no moments would do.
 fn caused(alloc: Global, history: History) -> Result<Answer, AllocError>
     ensures { IfOk result (IsCause history) }
 {
@@ -54,7 +75,8 @@ fn caused(alloc: Global, history: History) -> Result<Answer, AllocError>
         Verdict::No { event, .. } => {
             let cause = cause_of(alloc, &history, &None, event)?;
             let allowed = allowed_in(alloc, &history, event)?;
-            Ok(Answer::Cause(report, history, cause, allowed))
+            let rests = rests_of(alloc, &history, event, &cause.other)?;
+            Ok(Answer::Cause(report, history, cause, allowed, rests))
         }
     }
 }

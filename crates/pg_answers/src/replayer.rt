@@ -9,18 +9,21 @@ ghost use Rattle.pg_report.specs.Audits.{WritesText};
 ghost use Rattle.pg_report.specs.Intake.{TellsDevice};
 ghost use Rattle.pg_answers.specs.Replay.{end_of_run};
 ghost use Rattle.pg_answers.specs.Runs.{run_text};
-ghost use Rattle.pg_answers.specs.RunOf.{IsRunOf, ShowsRun, WritesRun, run_status};
+ghost use Rattle.pg_answers.specs.RunOf.{IsRunOf, ShowsRun, WritesRun, no_text, run_status};
 ghost use Rattle.pg_answers.specs.Streams.{streams};
 
 use crate::refusals::tell_error;
+use crate::ruled::push_rules_line;
 use crate::runs::run_text;
 use crate::shown::Shown;
 use crate::statuses::{NO, YES, error_status};
+use crate::under::ruled;
 use pg_check::History;
 use pg_codec::{Sink, Source};
+use pg_entry::Rules;
 use pg_event::Header;
 use pg_machine::{Machine, Step, Stuck};
-use pg_report::{AuditError, read_record, report_of, write_report, write_text};
+use pg_report::{AuditError, read_record, report_of, write_text};
 use pg_run_of::BuildError;
 use std::alloc::{AllocError, Global};
 
@@ -68,6 +71,21 @@ fn write_replayed<O: Sink>(
     write_steps(alloc, output, steps)
 }
 
+/// Writes the report of a record, with the rules that its processors are held to where these are
+/// not all.
+fn write_no<O: Sink>(
+    alloc: Global,
+    history: &History,
+    output: &mut O,
+) -> Result<(), AuditError>
+    ensures text { WritesText (filled O.Sink output.old output.new) (no_text history.now) result }
+    ensures device { TellsDevice (filled O.Sink output.old output.new) result }
+{
+    let mut text = report_of(history).text(alloc)?;
+    push_rules_line(alloc, &mut text, history.header().cfg.rules)?;
+    write_text(output, text.as_str())
+}
+
 /// Writes the run of an accepted record, or the report of one that is not.
 fn write_run_of<O: Sink>(
     alloc: Global,
@@ -82,27 +100,30 @@ fn write_run_of<O: Sink>(
             Ok(()) => Ok(Shown::Run),
             Err(error) => Err(error),
         },
-        Err(BuildError::NotAccepted { .. }) => {
-            match write_report(alloc, output, report_of(history)) {
-                Ok(()) => Ok(Shown::Report),
-                Err(error) => Err(error),
-            }
-        }
+        Err(BuildError::NotAccepted { .. }) => match write_no(alloc, history, output) {
+            Ok(()) => Ok(Shown::Report),
+            Err(error) => Err(error),
+        },
         Err(BuildError::Memory) => Err(AuditError::Memory),
     }
 }
 
-/// Reads a record, and writes its run if it is accepted, and else its report.
+/// Reads a record, and writes its run if it is accepted, where its processors are held to these
+/// rules, and else its report.
 fn write_run<R: Source, O: Sink>(
     alloc: Global,
+    rules: Rules,
     input: &mut R,
     output: &mut O,
 ) -> Result<Shown, AuditError>
-    ensures { IsRunOf
+    ensures { IsRunOf rules
         (drawn R.Source input.old input.new) (filled O.Sink output.old output.new) result }
 {
     match read_record(alloc, input) {
-        Ok(history) => write_run_of(alloc, &history, output),
+        Ok(history) => {
+            let held = ruled(alloc, rules, history)?;
+            write_run_of(alloc, &held, output)
+        }
         Err(error) => Err(error),
     }
 }
@@ -119,18 +140,20 @@ fn run_status(answer: Result<Shown, AuditError>) -> u8
 }
 
 /// Writes a run of the manual's machine that has the events of the record on `input`, one step a
-/// line, after a machine took each of them; where the record is not accepted, its report. It gives
-/// the exit status: 0 a run, 1 no, 2 refused, 3 memory.
+/// line, after a machine took each of them, whose processors are held to these rules; where the
+/// record is not accepted, its report. It gives the exit status: 0 a run, 1 no, 2 refused, 3
+/// memory.
 pub fn run_of<R: Source, O: Sink, E: Sink>(
     alloc: Global,
+    rules: Rules,
     input: &mut R,
     output: &mut O,
     errors: &mut E,
 ) -> u8
-    ensures { ShowsRun (streams R.Source O.Sink E.Sink
+    ensures { ShowsRun rules (streams R.Source O.Sink E.Sink
         (input.old, output.old, errors.old) (input.new, output.new, errors.new)) result }
 {
-    let answer = write_run(alloc, input, output);
+    let answer = write_run(alloc, rules, input, output);
     tell_error(errors, &answer);
     run_status(answer)
 }

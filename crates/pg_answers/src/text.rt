@@ -3,6 +3,7 @@
 ghost use Rattle.std.specs.Prelude.{◌≡◌, ◌++◌, IfOk, OnOk, string_bytes};
 ghost use Rattle.pg_report.specs.Text.{counts_text};
 ghost use Rattle.pg_answers.specs.AnswerTexts.{answer_text, causes_text, count_line};
+ghost use Rattle.pg_answers.specs.AnswerTexts.{is_report, ruled_text};
 ghost use Rattle.pg_answers.specs.AnswerTexts.{denied_head, denied_report, rejection_text};
 ghost use Rattle.pg_answers.specs.AnswerTexts.{summary_text, tally_line, tally_lines};
 ghost use Rattle.pg_explain.specs.Text.{explanation_text};
@@ -10,6 +11,8 @@ ghost use Rattle.pg_explain.specs.Text.{explanation_text};
 use crate::allowed_text::push_allowed_lines;
 use crate::answer::{Answer, Rejection, Summary};
 use crate::outcomes_text::event_outcomes_text;
+use crate::ruled::{push_asked_rests, push_denied_rests, push_rules_line};
+use pg_entry::Rules;
 use pg_event::Event;
 use pg_explain::{Explanation, Tally, denial_text_by, explanation_text, shown_text, tally_text};
 use pg_report::{reason_name, reason_number};
@@ -112,15 +115,17 @@ pub(crate) fn rejection_text(alloc: Global, rejection: &Rejection) -> Result<Str
         takers,
         denial,
         allowed,
+        rests,
         ..
     } = rejection;
     let told = denial_text_by(alloc, Some(*event), *takers, denial)?;
     text.push_str(told.as_str())?;
     push_allowed_lines(&mut text, allowed)?;
+    push_denied_rests(&mut text, rests)?;
     Ok(text)
 }
 
-/// An answer as text. Fails only when out of memory.
+/// An answer as text, where processors are held to all rules. Fails only when out of memory.
 pub fn answer_text(alloc: Global, answer: &Answer) -> Result<String, AllocError>
     ensures { IfOk result (λ t. string_bytes t ≡ answer_text answer.now) }
 {
@@ -131,10 +136,11 @@ pub fn answer_text(alloc: Global, answer: &Answer) -> Result<String, AllocError>
             push_summary(alloc, &mut text, summary)?;
             Ok(text)
         }
-        Answer::Cause(report, history, explanation, allowed) => {
+        Answer::Cause(report, history, explanation, allowed, rests) => {
             let mut text = report.text(alloc)?;
             push_cause(alloc, &mut text, history.events(), explanation)?;
             push_allowed_lines(&mut text, allowed)?;
+            push_asked_rests(&mut text, rests)?;
             Ok(text)
         }
         Answer::Causes(report, history, explanations, summary) => {
@@ -147,4 +153,30 @@ pub fn answer_text(alloc: Global, answer: &Answer) -> Result<String, AllocError>
         Answer::Events(history, selection) => shown_text(alloc, *selection, history.events()),
         Answer::Outcomes(outcomes) => event_outcomes_text(alloc, outcomes),
     }
+}
+
+/// Whether an answer is a report.
+pub fn is_report(answer: &Answer) -> bool
+    ensures { result ≡ is_report answer.now }
+{
+    match answer {
+        Answer::Report(_)
+        | Answer::Summary(..)
+        | Answer::Cause(..)
+        | Answer::Causes(..)
+        | Answer::Rejection(_) => true,
+        Answer::Events(..) | Answer::Outcomes(_) => false,
+    }
+}
+
+/// An answer as text, where processors are held to these rules: a report names them, where they are
+/// not all. Fails only when out of memory.
+pub fn ruled_text(alloc: Global, rules: Rules, answer: &Answer) -> Result<String, AllocError>
+    ensures { IfOk result (λ t. string_bytes t ≡ ruled_text rules answer.now) }
+{
+    let mut text = answer_text(alloc, answer)?;
+    if is_report(answer) {
+        push_rules_line(alloc, &mut text, rules)?;
+    }
+    Ok(text)
 }

@@ -29,14 +29,14 @@ every = record { from = 0; to = 4294967295; cpu = None; page = None; loads = fal
 
 -- `check` with no option
 abbrev bare : CheckOptions
-bare = record { checkers = 1; all = false; first = false; json = false }
+bare = record { checkers = 1; all = false; first = false; json = false; rules = all_rules }
 
 -- nothing is told meanwhile
 abbrev quiet : Command → Plan
-quiet command = record { command = command; progress = false; quiet = false; rules = all_rules }
+quiet command = record { command = command; progress = false; quiet = false }
 
 abbrev telling : Command → Plan
-telling command = record { command = command; progress = true; quiet = false; rules = all_rules }
+telling command = record { command = command; progress = true; quiet = false }
 
 check : Gives (codes "check" ∷ []) []
 unfolding clap_on_literals
@@ -59,9 +59,9 @@ check_short : Gives (codes "check" ∷ codes "-j" ∷ codes "65" ∷ []) (ValueV
 unfolding clap_on_literals
 check_short = refl
 
-asks_certify : Asks (codes "certify" ∷ codes "--bytes" ∷ []) (quiet (Certify (record { checkers = 1; bytes = true; order = false; first = false; json = false; trace = false }))) None
+asks_certify : Asks (codes "certify" ∷ codes "--bytes" ∷ []) (quiet (Certify (record { checkers = 1; bytes = true; order = false; first = false; json = false; trace = false; rules = all_rules }))) None
 unfolding clap_on_literals has_conflict
-asks_certify = (refl, ((refl, record { checkers = refl; bytes = refl; order = refl; first = refl; json = refl; trace = refl }), refl, refl, refl, refl), refl)
+asks_certify = (refl, ((refl, record { checkers = refl; bytes = refl; order = refl; first = refl; json = refl; trace = refl; rules = refl }), refl, refl, refl), refl)
 
 certify_single : Gives (codes "certify" ∷ codes "--single" ∷ []) (UnknownArgument ∷ [])
 unfolding clap_on_literals
@@ -168,7 +168,7 @@ checkers_of_run_of = refl
 
 asks_one : Asks (codes "check" ∷ []) (quiet (Check bare)) None
 unfolding clap_on_literals has_conflict
-asks_one = (refl, ((refl, record { checkers = refl; all = refl; first = refl; json = refl }), refl, refl, refl, refl), refl)
+asks_one = (refl, ((refl, record { checkers = refl; all = refl; first = refl; json = refl; rules = refl }), refl, refl, refl), refl)
 
 -- ---- the switches of `run`
 
@@ -192,7 +192,7 @@ two = refl
 
 asks_run : Asks run_words (quiet (Run (record { checkers = 2; single = true; bytes = true }))) None
 unfolding clap_on_literals has_conflict
-asks_run = (refl, ((refl, record { checkers = subst (λ o. AreAsked o 2) (sym two) (((omega arith, (omega arith, tt)), refl, omega arith), (omega arith, omega arith)); single = refl; bytes = refl }), refl, refl, refl, refl), refl)
+asks_run = (refl, ((refl, record { checkers = subst (λ o. AreAsked o 2) (sym two) (((omega arith, (omega arith, tt)), refl, omega arith), (omega arith, omega arith)); single = refl; bytes = refl }), refl, refl, refl), refl)
 
 -- ---- the event numbers of `show`
 
@@ -222,9 +222,9 @@ seven : first_of (codes "to") show_options ≡ Some (codes "7")
 unfolding clap_on_literals
 seven = refl
 
-asks_show : Asks show_words (quiet (Show (record { selection = record every { from = 5; to = 7 }; json = false; trace = false }))) None
+asks_show : Asks show_words (quiet (Show (record { selection = record every { from = 5; to = 7 }; json = false; trace = false; rules = all_rules }))) None
 unfolding clap_on_literals has_conflict
-asks_show = (refl, ((refl, record { selection = record { from = subst (λ o. IsAsked 0 o 5) (sym five) ((omega arith, (omega arith, tt)), refl, omega arith); to = subst (λ o. IsAsked 4294967295 o 7) (sym seven) ((omega arith, (omega arith, tt)), refl, omega arith); cpu = tt; page = tt; loads = refl; word = tt }; json = refl; trace = refl }), refl, refl, refl, refl), refl)
+asks_show = (refl, ((refl, record { selection = record { from = subst (λ o. IsAsked 0 o 5) (sym five) ((omega arith, (omega arith, tt)), refl, omega arith); to = subst (λ o. IsAsked 4294967295 o 7) (sym seven) ((omega arith, (omega arith, tt)), refl, omega arith); cpu = tt; page = tt; loads = refl; word = tt }; json = refl; trace = refl; rules = refl }), refl, refl, refl), refl)
 
 -- ---- what is asked of the events themselves
 
@@ -261,9 +261,9 @@ is_3 = (((omega arith, (omega arith, tt)), refl, omega arith), omega arith)
 is_5f0 : IsPageIn (codes "0x5F0") 1520
 is_5f0 = ((codes "5F0", refl, (omega arith, (omega arith, (omega arith, (omega arith, (omega arith, tt)))), refl, omega arith)), refl)
 
-asks_filter : Asks filter_words (quiet (Show (record { selection = record every { cpu = Some 3; page = Some 1520 }; json = false; trace = false }))) None
+asks_filter : Asks filter_words (quiet (Show (record { selection = record every { cpu = Some 3; page = Some 1520 }; json = false; trace = false; rules = all_rules }))) None
 unfolding clap_on_literals has_conflict
-asks_filter = (refl, ((refl, record { selection = record { from = refl; to = refl; cpu = subst (λ o. IsOptional IsCpuIn o (Some 3)) (sym third) is_3; page = subst (λ o. IsOptional IsPageIn o (Some 1520)) (sym paged) is_5f0; loads = refl; word = tt }; json = refl; trace = refl }), refl, refl, refl, refl), refl)
+asks_filter = (refl, ((refl, record { selection = record { from = refl; to = refl; cpu = subst (λ o. IsOptional IsCpuIn o (Some 3)) (sym third) is_3; page = subst (λ o. IsOptional IsPageIn o (Some 1520)) (sym paged) is_5f0; loads = refl; word = tt }; json = refl; trace = refl; rules = refl }), refl, refl, refl), refl)
 
 -- ---- what is told of bad events
 
@@ -275,13 +275,13 @@ none_at_most : Gives (codes "explain" ∷ codes "--all" ∷ codes "--most" ∷ c
 unfolding clap_on_literals
 none_at_most = refl
 
-asks_all : Asks (codes "explain" ∷ codes "--all" ∷ []) (quiet (Explain (record { telling = All 100; json = false; trace = false }))) None
+asks_all : Asks (codes "explain" ∷ codes "--all" ∷ []) (quiet (Explain (record { telling = All 100; json = false; trace = false; rules = all_rules }))) None
 unfolding clap_on_literals has_conflict
-asks_all = (refl, ((refl, record { telling = (refl, refl, refl, refl); json = refl; trace = refl }), refl, refl, refl, refl), refl)
+asks_all = (refl, ((refl, record { telling = (refl, refl, refl, refl); json = refl; trace = refl; rules = refl }), refl, refl, refl), refl)
 
-asks_picture : Asks (codes "explain" ∷ codes "--svg" ∷ []) (quiet (Explain (record { telling = Picture; json = false; trace = false }))) None
+asks_picture : Asks (codes "explain" ∷ codes "--svg" ∷ []) (quiet (Explain (record { telling = Picture; json = false; trace = false; rules = all_rules }))) None
 unfolding clap_on_literals has_conflict
-asks_picture = (refl, ((refl, record { telling = (refl, refl, refl, refl); json = refl; trace = refl }), refl, refl, refl, refl), refl)
+asks_picture = (refl, ((refl, record { telling = (refl, refl, refl, refl); json = refl; trace = refl; rules = refl }), refl, refl, refl), refl)
 
 picture_of_certify : Gives (codes "certify" ∷ codes "--svg" ∷ []) (UnknownArgument ∷ [])
 unfolding clap_on_literals
@@ -393,19 +393,19 @@ all_drawn = refl
 
 asks_progress : Asks (codes "check" ∷ codes "--progress" ∷ []) (telling (Check bare)) None
 unfolding clap_on_literals has_conflict
-asks_progress = (refl, ((refl, record { checkers = refl; all = refl; first = refl; json = refl }), refl, refl, refl, refl), refl)
+asks_progress = (refl, ((refl, record { checkers = refl; all = refl; first = refl; json = refl; rules = refl }), refl, refl, refl), refl)
 
 asks_progress_of_run : Asks (codes "run" ∷ codes "--progress" ∷ []) (telling (Run (record { checkers = 1; single = false; bytes = false }))) None
 unfolding clap_on_literals has_conflict
-asks_progress_of_run = (refl, ((refl, record { checkers = refl; single = refl; bytes = refl }), refl, refl, refl, refl), refl)
+asks_progress_of_run = (refl, ((refl, record { checkers = refl; single = refl; bytes = refl }), refl, refl, refl), refl)
 
-asks_json : Asks (codes "show" ∷ codes "--json" ∷ []) (quiet (Show (record { selection = every; json = true; trace = false }))) None
+asks_json : Asks (codes "show" ∷ codes "--json" ∷ []) (quiet (Show (record { selection = every; json = true; trace = false; rules = all_rules }))) None
 unfolding clap_on_literals has_conflict
-asks_json = (refl, ((refl, record { selection = record { from = refl; to = refl; cpu = tt; page = tt; loads = refl; word = tt }; json = refl; trace = refl }), refl, refl, refl, refl), refl)
+asks_json = (refl, ((refl, record { selection = record { from = refl; to = refl; cpu = tt; page = tt; loads = refl; word = tt }; json = refl; trace = refl; rules = refl }), refl, refl, refl), refl)
 
 asks_outcomes : Asks (codes "outcomes" ∷ []) (quiet (Outcomes (record { event = None; most = 100; json = false }))) None
 unfolding clap_on_literals has_conflict
-asks_outcomes = (refl, ((refl, record { event = tt; most = refl; json = refl }), refl, refl, refl, refl), refl)
+asks_outcomes = (refl, ((refl, record { event = tt; most = refl; json = refl }), refl, refl, refl), refl)
 
 outcomes_of_event : Gives (codes "outcomes" ∷ codes "--event" ∷ codes "7" ∷ codes "--limit" ∷ codes "3" ∷ []) []
 unfolding clap_on_literals
@@ -427,16 +427,16 @@ progress_of_show = refl
 
 file : Asks (codes "check" ∷ codes "a.record" ∷ []) (quiet (Check bare)) (Some (codes "a.record"))
 unfolding clap_on_literals has_conflict
-file = (refl, ((refl, record { checkers = refl; all = refl; first = refl; json = refl }), refl, refl, refl, refl), refl)
+file = (refl, ((refl, record { checkers = refl; all = refl; first = refl; json = refl; rules = refl }), refl, refl, refl), refl)
 
 dash : Asks (codes "check" ∷ codes "-" ∷ []) (quiet (Check bare)) None
 unfolding clap_on_literals has_conflict
-dash = (refl, ((refl, record { checkers = refl; all = refl; first = refl; json = refl }), refl, refl, refl, refl), refl)
+dash = (refl, ((refl, record { checkers = refl; all = refl; first = refl; json = refl; rules = refl }), refl, refl, refl), refl)
 
 -- after `--` each word is a name
 dashes : Asks (codes "check" ∷ codes "--" ∷ codes "--help" ∷ []) (quiet (Check bare)) (Some (codes "--help"))
 unfolding clap_on_literals has_conflict
-dashes = (refl, ((refl, record { checkers = refl; all = refl; first = refl; json = refl }), refl, refl, refl, refl), refl)
+dashes = (refl, ((refl, record { checkers = refl; all = refl; first = refl; json = refl; rules = refl }), refl, refl, refl), refl)
 
 file_of_upgrade : Gives (codes "upgrade" ∷ codes "a.record" ∷ []) []
 unfolding clap_on_literals
@@ -448,7 +448,7 @@ options_of_upgrade = refl
 
 asks_quiet : Asks (codes "check" ∷ codes "-q" ∷ []) (record (quiet (Check bare)) { quiet = true }) None
 unfolding clap_on_literals has_conflict
-asks_quiet = (refl, ((refl, record { checkers = refl; all = refl; first = refl; json = refl }), refl, refl, refl, refl), refl)
+asks_quiet = (refl, ((refl, record { checkers = refl; all = refl; first = refl; json = refl; rules = refl }), refl, refl, refl), refl)
 
 -- ---- several files, and a file for what is written
 

@@ -24,6 +24,7 @@ use Rattle.pg_arguments.specs.declared.request.ExplainOptions.{ExplainOptions}
 use Rattle.pg_arguments.specs.declared.request.OutcomesOptions.{OutcomesOptions}
 use Rattle.pg_arguments.specs.declared.request.Plan.{Plan}
 use Rattle.pg_arguments.specs.declared.request.RunOptions.{RunOptions}
+use Rattle.pg_entry.specs.declared.Rules.{Rules}
 use Rattle.pg_event.specs.declared.selection.Selection.{Selection}
 use Rattle.pg_arguments.specs.declared.request.ShowOptions.{ShowOptions}
 use Rattle.pg_arguments.specs.declared.request.Telling.{Telling}
@@ -336,6 +337,10 @@ IsTellingOf rows = IsTelling (has (codes "all") rows) (has (codes "svg") rows)
 abbrev pub AreCheckersOf : List Row → ℕ → Type 0
 AreCheckersOf rows = AreAsked (first_of (codes "checkers") rows)
 
+-- these rules are asked for: all of them where no option names some
+abbrev pub AreRulesOf : List Row → Rules → Type 0
+AreRulesOf rows rules = rules_asked (first_of (codes "rules") rows) ≡ Some rules
+
 -- ---- this is what options ask of each command
 
 pub record IsAskedOfCheck (rows : List Row) (asked : CheckOptions) : Type 0 where
@@ -343,6 +348,7 @@ pub record IsAskedOfCheck (rows : List Row) (asked : CheckOptions) : Type 0 wher
   pub all : asked.all ≡ has (codes "all") rows
   pub first : asked.first ≡ has (codes "first") rows
   pub json : asked.json ≡ has (codes "json") rows
+  pub rules : AreRulesOf rows asked.rules
 
 pub record IsAskedOfCertify (rows : List Row) (asked : CertifyOptions) : Type 0 where
   pub checkers : AreCheckersOf rows asked.checkers
@@ -351,6 +357,7 @@ pub record IsAskedOfCertify (rows : List Row) (asked : CertifyOptions) : Type 0 
   pub first : asked.first ≡ has (codes "first") rows
   pub json : asked.json ≡ has (codes "json") rows
   pub trace : asked.trace ≡ has (codes "trace") rows
+  pub rules : AreRulesOf rows asked.rules
 
 pub record IsAskedOfRun (rows : List Row) (asked : RunOptions) : Type 0 where
   pub checkers : AreCheckersOf rows asked.checkers
@@ -361,11 +368,13 @@ pub record IsAskedOfExplain (rows : List Row) (asked : ExplainOptions) : Type 0 
   pub telling : IsTellingOf rows asked.telling
   pub json : asked.json ≡ has (codes "json") rows
   pub trace : asked.trace ≡ has (codes "trace") rows
+  pub rules : AreRulesOf rows asked.rules
 
 pub record IsAskedOfShow (rows : List Row) (asked : ShowOptions) : Type 0 where
   pub selection : IsSelectionOf rows asked.selection
   pub json : asked.json ≡ has (codes "json") rows
   pub trace : asked.trace ≡ has (codes "trace") rows
+  pub rules : AreRulesOf rows asked.rules
 
 pub record IsAskedOfOutcomes (rows : List Row) (asked : OutcomesOptions) : Type 0 where
   pub event : IsOptional IsNumberIn (first_of (codes "event") rows) asked.event
@@ -380,7 +389,7 @@ abbrev pub IsCommandOf : Text → List Row → Command → Type 0
 IsCommandOf name rows (Check asked) = (name ≡ codes "check") × IsAskedOfCheck rows asked
 IsCommandOf name rows (Certify asked) = (name ≡ codes "certify") × IsAskedOfCertify rows asked
 IsCommandOf name rows (Run asked) = (name ≡ codes "run") × IsAskedOfRun rows asked
-IsCommandOf name rows RunOf = name ≡ codes "run-of"
+IsCommandOf name rows (RunOf rules) = (name ≡ codes "run-of") × AreRulesOf rows rules
 IsCommandOf name rows (Explain asked) = (name ≡ codes "explain") × IsAskedOfExplain rows asked
 IsCommandOf name rows (Show asked) = (name ≡ codes "show") × IsAskedOfShow rows asked
 IsCommandOf name rows (Outcomes asked) =
@@ -394,7 +403,6 @@ IsPlanOf None plan = ⊥
 IsPlanOf (Some (name, rows)) plan =
     IsCommandOf name rows plan.command × (plan.progress ≡ has (codes "progress") rows)
     × (plan.quiet ≡ has (codes "quiet") rows) × (has_conflict rows ≡ false)
-    × (rules_asked (first_of (codes "rules") rows) ≡ Some plan.rules)
 
 -- the file of a name: none for `-`, which is standard input
 abbrev pub named_file : Option Text → Option Text

@@ -1,14 +1,23 @@
 -- The rules that the value of `--rules` names: a preset, and after commas rules that are left out
 -- of it or added to it.
-use Rattle.std.specs.Prelude.{ℕ, Bool, ◌==◌, if◌then◌else◌, List, [], ◌∷◌, codes}
+use Rattle.std.specs.Prelude.{ℕ, Bool, ◌==◌, if◌then◌else◌, bit_or, List, [], ◌∷◌, codes}
 use Rattle.std.specs.Prelude.{Option, Some, None, option_map, option_and_then}
 use Rattle.std.specs.List.{slice_split}
 use Rattle.std.specs.Str.{bytes_eq}
 use Rattle.clap.specs.Walk.{Text}
 use Rattle.pg_entry.specs.declared.Rules.{Rules}
-use Rattle.pg_entry.specs.Rules.{all_rules, amd_rules, lax_rules, without, also}
+use Rattle.pg_entry.specs.Rules.{all_rules, lax_rules, without}
 use Rattle.pg_entry.specs.Rules.{fault_translations, fault_globals, fault_structures}
 use Rattle.pg_entry.specs.Rules.{invlpg_structures, invpcid_structures}
+
+-- those that AMD's manual promises, as far as memory goes: all but what a page fault drops (volume
+-- 2, section 5.5)
+abbrev pub amd_rules : Rules
+amd_rules = record { 0 = 24 }
+
+-- some rules and one more
+abbrev pub also : ℕ → Rules → Rules
+also rule rules = record { 0 = bit_or rules.0 rule }
 
 abbrev pub preset_of : Text → Option Rules
 preset_of name =

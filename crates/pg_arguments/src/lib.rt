@@ -16,4 +16,7 @@ pub use request::{
     CertifyOptions, CheckOptions, Command, ExplainOptions, Invocation, OutcomesOptions, Plan,
     RunOptions, ShowOptions, Telling, Usage,
 };
+pub use ruled::{
+    FAULT_GLOBALS, FAULT_STRUCTURES, FAULT_TRANSLATIONS, INVLPG_STRUCTURES, INVPCID_STRUCTURES,
+};
 pub use words::{NoWords, arguments, words_of};

@@ -14,7 +14,8 @@ ghost use Rattle.pg_arguments.specs.Commands.{IsAskedOfCertify, IsAskedOfRun, Is
 ghost use Rattle.pg_arguments.specs.Commands.{IsAskedOfShow, IsAskedOfOutcomes, IsAskedOfMerge};
 ghost use Rattle.pg_arguments.specs.Commands.{mixes_rules};
 ghost use Rattle.pg_arguments.specs.Commands.{IsCommandOf, IsPlanOf, Asks, AsksOnly};
-ghost use Rattle.pg_arguments.specs.Commands.{AreCheckersOf, AsksHelp, AsksVersion, NamesHelp};
+ghost use Rattle.pg_arguments.specs.Commands.{AreCheckersOf, AreRulesOf, AsksHelp, AsksVersion};
+ghost use Rattle.pg_arguments.specs.Commands.{NamesHelp};
 ghost use Rattle.pg_arguments.specs.Commands.{NamesVersion, AreTaken, IsHelp, IsVersion, IsFault};
 ghost use Rattle.pg_arguments.specs.Texts.{HasVersionText, IsFaultOf};
 ghost use Rattle.pg_arguments.specs.Texts.{IsWrong, TellsWrong, version_text};
@@ -36,6 +37,7 @@ use crate::values::{
 };
 use clap::error::ErrorKind;
 use clap::{ArgMatches, Error};
+use pg_entry::Rules;
 use pg_event::Selection;
 use std::alloc::{AllocError, Global};
 
@@ -262,6 +264,13 @@ fn checkers_in(own: &ArgMatches<'_>) -> Option<Checkers>
     checkers_of(text_of(own, CHECKERS))
 }
 
+/// The rules that the options ask for: all of them where they name none.
+fn rules_in(own: &ArgMatches<'_>) -> Option<Rules>
+    ensures { Reads result (AreRulesOf (options_of own.now)) }
+{
+    rules_asked(text_of(own, RULES))
+}
+
 fn asked_of_check(own: &ArgMatches<'_>) -> Option<CheckOptions>
     ensures { Reads result (IsAskedOfCheck (options_of own.now)) }
 {
@@ -270,6 +279,7 @@ fn asked_of_check(own: &ArgMatches<'_>) -> Option<CheckOptions>
         all: has(own, ALL),
         first: has(own, FIRST),
         json: has(own, JSON),
+        rules: rules_in(own)?,
     })
 }
 
@@ -283,6 +293,7 @@ fn asked_of_certify(own: &ArgMatches<'_>) -> Option<CertifyOptions>
         first: has(own, FIRST),
         json: has(own, JSON),
         trace: has(own, TRACE),
+        rules: rules_in(own)?,
     })
 }
 
@@ -303,6 +314,7 @@ fn asked_of_explain(own: &ArgMatches<'_>) -> Option<ExplainOptions>
         telling: telling_in(own)?,
         json: has(own, JSON),
         trace: has(own, TRACE),
+        rules: rules_in(own)?,
     })
 }
 
@@ -313,6 +325,7 @@ fn asked_of_show(own: &ArgMatches<'_>) -> Option<ShowOptions>
         selection: selection_of(own)?,
         json: has(own, JSON),
         trace: has(own, TRACE),
+        rules: rules_in(own)?,
     })
 }
 
@@ -341,7 +354,7 @@ fn command_of(name: &str, own: &ArgMatches<'_>) -> Option<Command>
         CHECK => Some(Command::Check(asked_of_check(own)?)),
         CERTIFY => Some(Command::Certify(asked_of_certify(own)?)),
         RUN => Some(Command::Run(asked_of_run(own)?)),
-        RUN_OF => Some(Command::RunOf),
+        RUN_OF => Some(Command::RunOf(rules_in(own)?)),
         EXPLAIN => Some(Command::Explain(asked_of_explain(own)?)),
         SHOW => Some(Command::Show(asked_of_show(own)?)),
         OUTCOMES => Some(Command::Outcomes(asked_of_outcomes(own)?)),
@@ -365,7 +378,6 @@ fn plan_of(matches: &ArgMatches<'_>) -> Option<Plan>
         command: command_of(name, own)?,
         progress: has(own, PROGRESS),
         quiet: has(own, QUIET),
-        rules: rules_asked(text_of(own, RULES))?,
     })
 }
 

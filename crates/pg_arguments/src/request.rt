@@ -28,6 +28,9 @@ pub struct CheckOptions {
     pub first: bool,
     /// Whether JSON is written in the place of text.
     pub json: bool,
+    /// The rules that the processors of the record are held to. They are all rules where `first` is
+    /// asked for.
+    pub rules: Rules,
 }
 
 /// What is asked of `certify`.
@@ -48,6 +51,9 @@ pub struct CertifyOptions {
     /// Whether a trace is written in the place of the report. A plan does not ask for it beside
     /// another of these forms, or `first`.
     pub trace: bool,
+    /// The rules that the processors of the record are held to. They are all rules where `bytes`,
+    /// `first` or a trace is asked for.
+    pub rules: Rules,
 }
 
 /// What is asked of `run`.
@@ -69,6 +75,9 @@ pub struct ExplainOptions {
     /// Whether a trace is written in the place of text. A plan that asks for it asks for the first
     /// bad event, and not for JSON.
     pub trace: bool,
+    /// The rules that the processors of the record are held to. They are all rules where a trace is
+    /// asked for.
+    pub rules: Rules,
 }
 
 /// What is asked of `show`.
@@ -80,6 +89,8 @@ pub struct ShowOptions {
     /// Whether a trace is written in the place of text. A plan does not ask for it beside JSON, or
     /// loads of a page's processors.
     pub trace: bool,
+    /// The rules that the processors of the record are held to. They change no event that is shown.
+    pub rules: Rules,
 }
 
 /// What is asked of `outcomes`.
@@ -106,8 +117,9 @@ pub enum Command {
     Certify(CertifyOptions),
     /// Read a guest script, run it, and write the report of the run's record, or the record.
     Run(RunOptions),
-    /// Read a record, and write a run of the manual's machine that has its events.
-    RunOf,
+    /// Read a record, and write a run of the manual's machine that has its events, where processors
+    /// are held to these rules.
+    RunOf(Rules),
     /// Read a record, and write its report and, of a rejection, its cause.
     Explain(ExplainOptions),
     /// Read a record, and write its events, a line each.
@@ -126,9 +138,6 @@ pub enum Command {
 #[derive(Clone, Copy, Debug, PartialEq, Eq)]
 pub struct Plan {
     pub command: Command,
-    /// Which rules the processors of a record are held to. They are all rules but of `check`,
-    /// `certify`, `explain`, `show` and `run-of`, the commands that have the option.
-    pub rules: Rules,
     /// Whether it is told meanwhile how many events have been read, or `run` has recorded. It is
     /// never asked of `show`, of `merge`, and of `run` on a single thread.
     pub progress: bool,

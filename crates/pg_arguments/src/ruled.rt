@@ -1,12 +1,23 @@
 //! The rules that the value of `--rules` names.
 
-ghost use Rattle.std.specs.Prelude.{◌≡◌, ◌<◌, ◌∷◌, length, IfSome, option_map};
+ghost use Rattle.std.specs.Prelude.{◌≡◌, ◌<◌, ◌≤◌, ◌∷◌, length, IfSome, option_map};
 ghost use Rattle.std.specs.Option.{option_copied};
 ghost use Rattle.std.specs.Str.{bytes_eq};
-ghost use Rattle.pg_arguments.specs.Ruled.{preset_of, rule_of, changed, changed_all, pieces};
-ghost use Rattle.pg_arguments.specs.Ruled.{pieces_behind, rules_asked};
+ghost use Rattle.pg_arguments.specs.Ruled.{preset_of, rule_of, also, changed, changed_all};
+ghost use Rattle.pg_arguments.specs.Ruled.{pieces, pieces_behind, rules_asked};
 
 use pg_entry::Rules;
+
+/// The rules that can be left out, by their names on the command line.
+pub const FAULT_TRANSLATIONS: &str = "fault-translations";
+/// A page fault drops the global translations of its page.
+pub const FAULT_GLOBALS: &str = "fault-globals";
+/// A page fault drops structure entries of its address.
+pub const FAULT_STRUCTURES: &str = "fault-structures";
+/// INVLPG drops structure entries of other addresses.
+pub const INVLPG_STRUCTURES: &str = "invlpg-structures";
+/// INVPCID of type 0 drops structure entries.
+pub const INVPCID_STRUCTURES: &str = "invpcid-structures";
 
 fn same_bytes(xs: &[u8], ys: &[u8]) -> bool
     ensures { result ≡ bytes_eq xs.now ys.now }
@@ -33,24 +44,31 @@ fn preset_of(name: &[u8]) -> Option<Rules>
 /// The rule of a name.
 fn rule_of(name: &[u8]) -> Option<Rules>
     ensures value { option_map (λ r. r.0) result ≡ rule_of name.now }
-    ensures one { IfSome result (λ r. r.0 < 64) }
+    ensures one { IfSome result (λ r. r.0 ≤ 31) }
 {
-    if same_bytes(name, b"fault-translations") {
+    if same_bytes(name, FAULT_TRANSLATIONS.as_bytes()) {
         return Some(Rules::FAULT_TRANSLATIONS);
     }
-    if same_bytes(name, b"fault-globals") {
+    if same_bytes(name, FAULT_GLOBALS.as_bytes()) {
         return Some(Rules::FAULT_GLOBALS);
     }
-    if same_bytes(name, b"fault-structures") {
+    if same_bytes(name, FAULT_STRUCTURES.as_bytes()) {
         return Some(Rules::FAULT_STRUCTURES);
     }
-    if same_bytes(name, b"invlpg-structures") {
+    if same_bytes(name, INVLPG_STRUCTURES.as_bytes()) {
         return Some(Rules::INVLPG_STRUCTURES);
     }
-    if same_bytes(name, b"invpcid-structures") {
+    if same_bytes(name, INVPCID_STRUCTURES.as_bytes()) {
         return Some(Rules::INVPCID_STRUCTURES);
     }
     None
+}
+
+/// Some rules and one more.
+fn also(rules: Rules, rule: Rules) -> Rules
+    ensures { result ≡ also rule.0 rules }
+{
+    Rules(rules.0 | rule.0)
 }
 
 /// The rules without one, after `-`, or with one, after `+`.
@@ -59,7 +77,7 @@ fn changed(rules: Rules, word: &[u8]) -> Option<Rules>
 {
     match word {
         [b'-', name @ ..] => Some(rules.without(rule_of(name)?)),
-        [b'+', name @ ..] => Some(rules.also(rule_of(name)?)),
+        [b'+', name @ ..] => Some(also(rules, rule_of(name)?)),
         _ => None,
     }
 }

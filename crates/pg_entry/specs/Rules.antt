@@ -1,5 +1,5 @@
 -- Which of the model's rules a processor is held to.
-use Rattle.std.specs.Prelude.{◌≡◌, ℕ, ◌-◌, Bool, true, ◌==◌, bit_and, bit_or, List, [], ◌∷◌, codes}
+use Rattle.std.specs.Prelude.{◌≡◌, ℕ, ◌-◌, Bool, true, ◌==◌, bit_and, List, [], ◌∷◌, codes}
 use Rattle.pg_entry.specs.declared.Rules.{Rules}
 
 -- the rules that may be left out, each by its flag. A page fault drops the translations of its page
@@ -35,10 +35,6 @@ rule_names =
 abbrev pub all_rules : Rules
 all_rules = record { 0 = 31 }
 
--- those that AMD's manual promises, as far as memory goes: all but what a page fault drops
-abbrev pub amd_rules : Rules
-amd_rules = record { 0 = 56 }
-
 -- none of those that can be left out
 abbrev pub lax_rules : Rules
 lax_rules = record { 0 = 0 }
@@ -46,10 +42,6 @@ lax_rules = record { 0 = 0 }
 -- all of some rules but one
 abbrev pub without : ℕ → Rules → Rules
 without rule rules = record { 0 = bit_and rules.0 (31 - rule) }
-
--- some rules and one more
-abbrev pub also : ℕ → Rules → Rules
-also rule rules = record { 0 = bit_or rules.0 rule }
 
 -- whether they hold a processor to a rule
 abbrev pub holds : Rules → ℕ → Bool

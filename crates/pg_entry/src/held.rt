@@ -1,5 +1,5 @@
 ghost use Rattle.std.specs.Prelude.{⊤, ◌≡◌, ◌≤◌};
-ghost use Rattle.pg_entry.specs.Rules.{rule_names, holds, without, also};
+ghost use Rattle.pg_entry.specs.Rules.{rule_names, holds, without};
 
 use crate::Rules;
 use bitflags::{Flag, Flags, bitflag_items};
@@ -53,13 +53,6 @@ impl Rules {
         ensures { result ≡ without rule.0 self }
     {
         Rules(self.0 & (31 - rule.0))
-    }
-
-    /// They and this one.
-    pub fn also(self, rule: Rules) -> Rules
-        ensures { result ≡ also rule.0 self }
-    {
-        Rules(self.0 | rule.0)
     }
 
     /// Whether they hold a processor to a rule.

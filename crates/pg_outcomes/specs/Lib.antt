@@ -4,3 +4,4 @@ pub mod Pages
 pub mod Candidates
 pub mod Law
 pub mod Asked
+pub mod Resting

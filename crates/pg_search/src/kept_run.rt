@@ -1,9 +1,10 @@
 //! The events of a run that are kept, in little room.
 
-ghost use Rattle.std.specs.Prelude.{◌≡◌, ℕ, ◌+◌, ◌<◌, ◌≤◌, ◌^◌, [], ◌∷◌, ◌++◌, length, map, take};
-ghost use Rattle.std.specs.Prelude.{true, Some, None, IfOk, OnOk, OnErr, slice_get};
+ghost use Rattle.std.specs.Prelude.{◌≡◌, ℕ, ◌+◌, ◌-◌, ◌<◌, ◌≤◌, ◌^◌, [], ◌∷◌, ◌++◌, length, map};
+ghost use Rattle.std.specs.Prelude.{take, true, Some, None, IfOk, OnOk, OnErr, slice_get};
+ghost use Rattle.std.specs.List.{repeat};
 ghost use Rattle.pg_event.specs.Form.{broken_rule};
-ghost use Rattle.pg_event.specs.Spelling.{IsHead};
+ghost use Rattle.pg_event.specs.Spelling.{IsHead, held_to};
 ghost use Rattle.pg_check.specs.Judgements.{IsRight};
 ghost use Rattle.pg_check.specs.Kept.{AreWellFormed};
 ghost use Rattle.pg_search.specs.Seen.{IsSeen};
@@ -21,6 +22,7 @@ use crate::places::{Places, place_of};
 use crate::written::{Written, list_written, word_of};
 use pg_chain::Past;
 use pg_check::{Judgement, WalkCache, failing_next, judge_next_quickly};
+use pg_entry::Rules;
 use pg_event::{Event, Header, Reason};
 use std::alloc::{AllocError, Global};
 use std::marker::Model;
@@ -220,6 +222,19 @@ impl KeptRun {
         self.count += 1;
     }
 
+    /// Goes past the events up to this number, which change nothing.
+    fn pass_up_to(&mut self, number: u32)
+        requires { length self.old.events ≤ number }
+        ensures { self.new ≡ record {
+          head = self.old.head;
+          events = self.old.events ++ repeat (number - length self.old.events) (idle ∷ []);
+        } }
+    {
+        for _ in self.count..number {
+            self.pass();
+        }
+    }
+
     /// Keeps one event more. Fails where memory is refused, and then nothing is kept.
     #[inline(always)]
     pub fn keep(&mut self, event: &Event) -> Result<(), AllocError>
@@ -287,6 +302,21 @@ impl KeptRun {
             }
         }
         Ok(())
+    }
+
+    /// The same events of processors that are held to these rules. Fails where memory is refused.
+    pub fn held_to(&self, alloc: Global, rules: Rules) -> Result<KeptRun, AllocError>
+        ensures { IfOk result (λ kept. kept ≡ held_to rules self.now) }
+    {
+        let header = self.header.clone()?;
+        let mut held = KeptRun::new(alloc, header.with_rules(rules))?;
+        for brief in &self.briefs {
+            let event = event_of(&self.past, self.pairs.as_slice(), *brief);
+            held.pass_up_to(brief.number);
+            held.keep_change(&event)?;
+        }
+        held.pass_up_to(self.count);
+        Ok(held)
     }
 
     /// Forgets the events from a number on.

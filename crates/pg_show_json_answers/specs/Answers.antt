@@ -3,6 +3,7 @@ use Rattle.std.specs.Prelude.{ℕ, ◌+◌, Bool, if◌then◌else◌, List, [],
 use Rattle.std.specs.Prelude.{Option, Some, None, take, length}
 use Rattle.std.specs.declared.alloc.Global.{Global}
 use Rattle.std.specs.declared.vec.Vec.{Vec}
+use Rattle.pg_entry.specs.declared.Rules.{Rules}
 use Rattle.pg_event.specs.declared.event.Event.{Event}
 use Rattle.pg_event.specs.declared.event.Outcome.{Outcome}
 use Rattle.pg_event.specs.declared.event.Outcome.TheVariants.{Page, Fault}
@@ -30,24 +31,25 @@ use Rattle.pg_show_json.specs.Reports.{with_counts, with_no, with_report}
 use Rattle.pg_show_json.specs.Causes.{explanation_json, denial_json}
 use Rattle.pg_show_json.specs.Entries.{number_json, walk_json}
 use Rattle.pg_show_json.specs.Tallies.{tallies_json}
+use Rattle.pg_show_json_answers.specs.Ruled.{ruled_fields, with_rests}
 
 -- ---- objects
 
 -- a cause
-abbrev pub cause_fields : Json → Fields
-cause_fields cause = field (codes "cause") cause no_fields
+abbrev pub cause_fields : Json → Fields → Fields
+cause_fields cause others = field (codes "cause") cause others
 
 -- how many bad events there are, and what those with each reason have in common
-abbrev pub summary_fields : Summed → Fields
-summary_fields s =
+abbrev pub summary_fields : Summed → Fields → Fields
+summary_fields s others =
     field (codes "bad_events") (count s.bad_events)
-    (field (codes "tallies") (tallies_json s.tallies.items) no_fields)
+    (field (codes "tallies") (tallies_json s.tallies.items) others)
 
 -- that, and causes
-abbrev pub causes_fields : List Event → List Explanation → Summed → Fields
-causes_fields events xs s =
+abbrev pub causes_fields : List Event → List Explanation → Summed → Fields → Fields
+causes_fields events xs s others =
     field (codes "causes") (list (elements (map (explanation_json events) xs)))
-    (summary_fields s)
+    (summary_fields s others)
 
 -- ---- outcomes
 
@@ -69,11 +71,12 @@ with_allowed (Some xs) others =
 
 -- ---- a no of `certify`
 
--- its report, the cause, and what the event might have come to
-abbrev pub rejection_json : Rejected → Json
-rejection_json x = object (with_no x.denial.number 14 (codes "no moments")
+-- its report, the cause, what the event might have come to, and which rules it rests on
+abbrev pub rejection_json : Rules → Rejected → Json
+rejection_json rules x = object (with_no x.denial.number 14 (codes "no moments")
     (with_counts x.events x.segments
-    (with_allowed x.allowed (cause_fields (denial_json x.event x.takers x.denial)))))
+    (with_allowed x.allowed (cause_fields (denial_json x.event x.takers x.denial)
+    (with_rests (Some x.rests) (ruled_fields rules))))))
 
 -- ---- events
 
@@ -140,14 +143,19 @@ event_outcomes_fields (NoAccess told) = no_access_fields told
 
 -- ---- an answer
 
-abbrev pub answer_json : Answer → List ℕ
-answer_json (Report report) = json_line (object (with_report report no_fields))
-answer_json (Summary report s) = json_line (object (with_report report (summary_fields s)))
-answer_json (Cause report r x allowed) =
+-- where processors are held to these rules
+abbrev pub answer_json : Rules → Answer → List ℕ
+answer_json rules (Report report) =
+    json_line (object (with_report report (ruled_fields rules)))
+answer_json rules (Summary report s) =
+    json_line (object (with_report report (summary_fields s (ruled_fields rules))))
+answer_json rules (Cause report r x allowed rests) =
     json_line (object (with_report report
-    (with_allowed allowed (cause_fields (explanation_json r.events x)))))
-answer_json (Causes report r xs s) =
-    json_line (object (with_report report (causes_fields r.events xs.items s)))
-answer_json (Rejection x) = json_line (rejection_json x)
-answer_json (Events r selection) = shown_json selection r.events
-answer_json (Outcomes x) = json_line (object (event_outcomes_fields x))
+    (with_allowed allowed (cause_fields (explanation_json r.events x)
+    (with_rests rests (ruled_fields rules))))))
+answer_json rules (Causes report r xs s) =
+    json_line (object (with_report report
+    (causes_fields r.events xs.items s (ruled_fields rules))))
+answer_json rules (Rejection x) = json_line (rejection_json rules x)
+answer_json rules (Events r selection) = shown_json selection r.events
+answer_json rules (Outcomes x) = json_line (object (event_outcomes_fields x))

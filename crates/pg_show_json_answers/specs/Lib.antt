@@ -1,4 +1,5 @@
 pub mod Refusals
+pub mod Ruled
 pub mod Answers
 pub mod SpannedRefusals
 pub mod SpannedLines

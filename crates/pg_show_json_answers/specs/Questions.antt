@@ -1,5 +1,6 @@
 -- What `--json` answers of a question of a record with no one order (versions 3 and 4).
 use Rattle.std.specs.Prelude.{ℕ, Option, Result, Ok, Err}
+use Rattle.pg_entry.specs.declared.Rules.{Rules}
 use Rattle.pg_report.specs.Changes.{Change}
 use Rattle.pg_answers.specs.Streams.{Streams}
 use Rattle.pg_span_run.specs.Orders.{Spanned}
@@ -29,12 +30,12 @@ OutcomesJson event most st status =
 
 -- ---- the answer of a question: `explain` answers what `certify` does, and `check` refuses
 
-abbrev pub AnswersSpans : Question → Streams → ℕ → Type 0
-AnswersSpans Check st status = Refuses spans_json st.output st.errors status
-AnswersSpans CheckAll st status = Refuses spans_json st.output st.errors status
-AnswersSpans Certify st status = OrdersJson st status
-AnswersSpans Explain st status = OrdersJson st status
-AnswersSpans (ExplainAt n) st status = OrdersJson st status
-AnswersSpans (ExplainAll most) st status = OrdersJson st status
-AnswersSpans (Show selection) st status = ShowsJson selection st status
-AnswersSpans (Outcomes event most) st status = OutcomesJson event most st status
+abbrev pub AnswersSpans : Rules → Question → Streams → ℕ → Type 0
+AnswersSpans rules Check st status = Refuses spans_json st.output st.errors status
+AnswersSpans rules CheckAll st status = Refuses spans_json st.output st.errors status
+AnswersSpans rules Certify st status = OrdersJson rules st status
+AnswersSpans rules Explain st status = OrdersJson rules st status
+AnswersSpans rules (ExplainAt n) st status = OrdersJson rules st status
+AnswersSpans rules (ExplainAll most) st status = OrdersJson rules st status
+AnswersSpans rules (Show selection) st status = ShowsJson selection st status
+AnswersSpans rules (Outcomes event most) st status = OutcomesJson event most st status

@@ -1,6 +1,7 @@
 -- What the commands with `--json` answer of a record with no one order (versions 3 and 4): what
 -- they answer as text, by the words of `pg_span_answers`, as objects.
 use Rattle.std.specs.Prelude.{◌≡◌, ◌⊎◌, ℕ, List, Result, Ok, Err}
+use Rattle.pg_entry.specs.declared.Rules.{Rules}
 use Rattle.pg_event.specs.declared.selection.Selection.{Selection}
 use Rattle.pg_report.specs.declared.error.AuditError.TheVariants.{Device}
 use Rattle.pg_report.specs.Changes.{Change, Fails, Works, Adds, AddsSome}
@@ -10,7 +11,7 @@ use Rattle.pg_span_run.specs.Orders.{Spanned}
 use Rattle.pg_span_answers.specs.declared.reading.Unread.{Unread}
 use Rattle.pg_span_verdict.specs.declared.verdict.Verdict.{Verdict}
 use Rattle.pg_span_verdict.specs.Verdicts.{IsVerdict}
-use Rattle.pg_span_answers.specs.Answers.{status_of}
+use Rattle.pg_span_answers.specs.Answers.{held_to, status_of}
 use Rattle.pg_span_answers.specs.Readings.{ReadsRun, DeviceTold}
 use Rattle.pg_show_json.specs.Tree.{json_line}
 use Rattle.pg_show_json_answers.specs.Refusals.{error_json}
@@ -39,16 +40,16 @@ AnswersRun s output errors status =
     ((verdict : Verdict) × IsVerdict s verdict × GivesVerdict s verdict output errors status)
     ⊎ WantsMemory output errors status
 
-abbrev pub OrderFollows : Result Spanned Unread → Change → Change → ℕ → Type 0
-OrderFollows (Ok s) output errors status = AnswersRun s output errors status
-OrderFollows (Err why) output errors status = TellsUnread why output errors status
+abbrev pub OrderFollows : Rules → Result Spanned Unread → Change → Change → ℕ → Type 0
+OrderFollows rules (Ok s) output errors status = AnswersRun (held_to rules s) output errors status
+OrderFollows rules (Err why) output errors status = TellsUnread why output errors status
 
 -- where the bytes of the input are known, they spell the run that is answered, or this is their
 -- first refusal; and it is told of the device exactly where the input failed
-abbrev pub OrdersJson : Streams → ℕ → Type 0
-OrdersJson st status =
+abbrev pub OrdersJson : Rules → Streams → ℕ → Type 0
+OrdersJson rules st status =
     (read : Result Spanned Unread) × ReadsRun st.input.old.bytes read
-    × DeviceTold st.input read × OrderFollows read st.output st.errors status
+    × DeviceTold st.input read × OrderFollows rules read st.output st.errors status
 
 -- ---- the events
 

@@ -8,8 +8,11 @@
 --                          were tried
 --     deduced              of a no with a cause: two events each, of which the first comes first in
 --                          each order in which a run comes to the second
+--     rests_on             of a no: null, as it is not asked which rules it rests on
+--     rules                where they are not all, those that processors are held to
 --     events, segments     how many
-use Rattle.std.specs.Prelude.{ℕ, Bool, true, false, List, map, length, codes}
+use Rattle.std.specs.Prelude.{ℕ, Bool, true, false, List, map, length, codes, None}
+use Rattle.pg_entry.specs.declared.Rules.{Rules}
 use Rattle.pg_span_run.specs.Orders.{Spanned}
 use Rattle.pg_span_refute.specs.declared.edge.Edge.{Edge}
 use Rattle.pg_span_verdict.specs.declared.verdict.Verdict.{Verdict}
@@ -20,10 +23,13 @@ use Rattle.pg_show_json.specs.Tree.{Json, nothing, flag, count, text, list, obje
 use Rattle.pg_show_json.specs.Tree.{Fields, no_fields, field}
 use Rattle.pg_show_json.specs.Reports.{with_counts, with_yes, with_no}
 use Rattle.pg_show_json_answers.specs.Causes.{cause_json}
+use Rattle.pg_show_json_answers.specs.Ruled.{ruled_fields, with_rests}
 
-abbrev pub why_fields : Json → Bool → Fields
-why_fields cause is_of_all =
-    field (codes "all_orders") (flag is_of_all) (field (codes "cause") cause no_fields)
+-- why a no is one, where processors are held to these rules
+abbrev pub why_fields : Rules → Json → Bool → Fields
+why_fields rules cause is_of_all =
+    field (codes "all_orders") (flag is_of_all)
+    (field (codes "cause") cause (with_rests None (ruled_fields rules)))
 
 abbrev pub edge_json : Edge → Json
 edge_json edge = object (
@@ -34,13 +40,13 @@ edges_json edges = list (elements (map edge_json edges))
 
 abbrev pub never_fields : Spanned → ℕ → List Edge → Fields
 never_fields s n edges =
-    field (codes "deduced") (edges_json edges) (why_fields (cause_json s n) false)
+    field (codes "deduced") (edges_json edges) (why_fields s.head.cfg.rules (cause_json s n) false)
 
 abbrev pub cause_fields : Spanned → Verdict → Fields
-cause_fields s (Yes order) = no_fields
+cause_fields s (Yes order) = ruled_fields s.head.cfg.rules
 cause_fields s (Never n edges) = never_fields s n edges.items
-cause_fields s (NoneOfAll n) = why_fields nothing true
-cause_fields s (Undecided n) = no_fields
+cause_fields s (NoneOfAll n) = why_fields s.head.cfg.rules nothing true
+cause_fields s (Undecided n) = ruled_fields s.head.cfg.rules
 
 abbrev pub with_undecided : ℕ → Fields → Fields
 with_undecided event others =

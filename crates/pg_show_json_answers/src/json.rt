@@ -1,9 +1,9 @@
 //! Answers as JSON.
 
-ghost use Rattle.std.specs.Prelude.{◌≡◌, List, map, IfOk, string_bytes};
+ghost use Rattle.std.specs.Prelude.{◌≡◌, List, map, IfOk, OnOk, string_bytes};
 ghost use Rattle.serde_json.specs.View.{view, members_view};
 ghost use Rattle.pg_show_json.specs.Tree.{Json, Fields as ToldFields, data_of, members_of};
-ghost use Rattle.pg_show_json.specs.Tree.{json_line, no_fields, object};
+ghost use Rattle.pg_show_json.specs.Tree.{json_line, object};
 ghost use Rattle.pg_show_json.specs.Reports.{with_report};
 ghost use Rattle.pg_show_json.specs.Causes.{explanation_json};
 ghost use Rattle.pg_show_json_answers.specs.Answers.{answer_json, cause_fields, causes_fields};
@@ -11,7 +11,9 @@ ghost use Rattle.pg_show_json_answers.specs.Answers.{rejection_json, summary_fie
 
 use crate::lines::shown_json;
 use crate::outcomes::{outcomes_line, put_allowed};
+use crate::ruled::{put_rests, ruled_fields};
 use pg_answers::{Answer, Rejection, Summary};
+use pg_entry::Rules;
 use pg_event::Event;
 use pg_explain::Explanation;
 use pg_report::Report;
@@ -19,15 +21,8 @@ use pg_show_json::{
     Fields, denial_json, explanation_json, line_of, list_of, put_count, put_counts, put_no,
     put_report, tallies_json,
 };
-use serde_json::{Map, Value, put};
+use serde_json::{Value, put};
 use std::alloc::{AllocError, Global};
-
-/// No fields.
-fn none(alloc: Global) -> Fields
-    ensures { members_view result.entries ≡ members_of no_fields }
-{
-    Map::new(alloc)
-}
 
 /// The line of a report, with more of it.
 fn report_line(alloc: Global, report: Report, more: Fields) -> Result<String, AllocError>
@@ -39,25 +34,24 @@ fn report_line(alloc: Global, report: Report, more: Fields) -> Result<String, Al
     line_of(alloc, fields)
 }
 
-/// How many bad events there are, and what those with one reason have in common.
-fn summary_fields(alloc: Global, summary: &Summary) -> Result<Fields, AllocError>
-    ensures { IfOk result (λ m. members_view m.entries ≡ members_of (summary_fields summary.now)) }
+/// Puts how many bad events there are, and what those with one reason have in common.
+fn put_summary(fields: &mut Fields, alloc: Global, summary: &Summary) -> Result<(), AllocError>
+    ensures { (others : ToldFields) → members_view fields.old.entries ≡ members_of others →
+        OnOk result (members_view fields.new.entries
+        ≡ members_of (summary_fields summary.now others)) }
 {
-    let mut fields = none(alloc);
     let tallies = tallies_json(alloc, &summary.tallies)?;
-    put(&mut fields, alloc, "tallies", tallies)?;
-    put_count(&mut fields, alloc, "bad_events", summary.bad_events)?;
-    Ok(fields)
+    put(fields, alloc, "tallies", tallies)?;
+    put_count(fields, alloc, "bad_events", summary.bad_events)
 }
 
-/// A cause.
-fn cause_fields(alloc: Global, cause: Value) -> Result<Fields, AllocError>
-    ensures { (told : Json) → view cause ≡ data_of told →
-        IfOk result (λ m. members_view m.entries ≡ members_of (cause_fields told)) }
+/// Puts a cause.
+fn put_cause(fields: &mut Fields, alloc: Global, cause: Value) -> Result<(), AllocError>
+    ensures { (told : Json) (others : ToldFields) → view cause ≡ data_of told →
+        members_view fields.old.entries ≡ members_of others → OnOk result
+        (members_view fields.new.entries ≡ members_of (cause_fields told others)) }
 {
-    let mut fields = none(alloc);
-    put(&mut fields, alloc, "cause", cause)?;
-    Ok(fields)
+    put(fields, alloc, "cause", cause)
 }
 
 /// Causes, where these are the events of their run.
@@ -77,25 +71,30 @@ fn each(
     Ok(values)
 }
 
-/// Causes, and what all bad events have in common.
-fn causes_fields(
+/// Puts causes, and what all bad events have in common.
+fn put_causes(
+    fields: &mut Fields,
     alloc: Global,
     events: &[Event],
     explanations: &[Explanation],
     summary: &Summary,
-) -> Result<Fields, AllocError>
-    ensures { IfOk result (λ m. members_view m.entries
-        ≡ members_of (causes_fields events.now explanations.now summary.now)) }
+) -> Result<(), AllocError>
+    ensures { (others : ToldFields) → members_view fields.old.entries ≡ members_of others →
+        OnOk result (members_view fields.new.entries
+        ≡ members_of (causes_fields events.now explanations.now summary.now others)) }
 {
-    let mut fields = summary_fields(alloc, summary)?;
+    put_summary(fields, alloc, summary)?;
     let causes = each(alloc, events, explanations)?;
-    put(&mut fields, alloc, "causes", list_of(causes))?;
-    Ok(fields)
+    put(fields, alloc, "causes", list_of(causes))
 }
 
 /// The line of a no of `certify`, and of its cause.
-fn rejection_line(alloc: Global, rejection: &Rejection) -> Result<String, AllocError>
-    ensures { IfOk result (λ t. string_bytes t ≡ json_line (rejection_json rejection.now)) }
+fn rejection_line(
+    alloc: Global,
+    rules: Rules,
+    rejection: &Rejection,
+) -> Result<String, AllocError>
+    ensures { IfOk result (λ t. string_bytes t ≡ json_line (rejection_json rules rejection.now)) }
 {
     let Rejection {
         events,
@@ -104,37 +103,44 @@ fn rejection_line(alloc: Global, rejection: &Rejection) -> Result<String, AllocE
         event,
         takers,
         allowed,
+        rests,
     } = rejection;
+    let mut fields = ruled_fields(alloc, rules)?;
+    put_rests(&mut fields, alloc, &Some(*rests))?;
     let cause = denial_json(alloc, event, *takers, denial)?;
-    let mut fields = cause_fields(alloc, cause)?;
+    put_cause(&mut fields, alloc, cause)?;
     put_allowed(&mut fields, alloc, allowed)?;
     put_counts(&mut fields, alloc, *events, *segments)?;
     put_no(&mut fields, alloc, denial.number as u64, 14, "no moments")?;
     line_of(alloc, fields)
 }
 
-/// An answer as JSON: an object in one line, and of events one of each. Fails only when out of
-/// memory.
-pub fn answer_json(alloc: Global, answer: &Answer) -> Result<String, AllocError>
-    ensures { IfOk result (λ t. string_bytes t ≡ answer_json answer.now) }
+/// An answer as JSON, where processors are held to these rules: an object in one line, and of events
+/// one of each. Fails only when out of memory.
+pub fn answer_json(alloc: Global, rules: Rules, answer: &Answer) -> Result<String, AllocError>
+    ensures { IfOk result (λ t. string_bytes t ≡ answer_json rules answer.now) }
 {
     match answer {
-        Answer::Report(report) => report_line(alloc, *report, none(alloc)),
+        Answer::Report(report) => report_line(alloc, *report, ruled_fields(alloc, rules)?),
         Answer::Summary(report, summary) => {
-            let fields = summary_fields(alloc, summary)?;
+            let mut fields = ruled_fields(alloc, rules)?;
+            put_summary(&mut fields, alloc, summary)?;
             report_line(alloc, *report, fields)
         }
-        Answer::Cause(report, history, explanation, allowed) => {
+        Answer::Cause(report, history, explanation, allowed, rests) => {
+            let mut fields = ruled_fields(alloc, rules)?;
+            put_rests(&mut fields, alloc, rests)?;
             let cause = explanation_json(alloc, history.events(), explanation)?;
-            let mut fields = cause_fields(alloc, cause)?;
+            put_cause(&mut fields, alloc, cause)?;
             put_allowed(&mut fields, alloc, allowed)?;
             report_line(alloc, *report, fields)
         }
         Answer::Causes(report, history, explanations, summary) => {
-            let fields = causes_fields(alloc, history.events(), explanations, summary)?;
+            let mut fields = ruled_fields(alloc, rules)?;
+            put_causes(&mut fields, alloc, history.events(), explanations, summary)?;
             report_line(alloc, *report, fields)
         }
-        Answer::Rejection(rejection) => rejection_line(alloc, rejection),
+        Answer::Rejection(rejection) => rejection_line(alloc, rules, rejection),
         Answer::Events(history, selection) => shown_json(alloc, *selection, history.events()),
         Answer::Outcomes(outcomes) => outcomes_line(alloc, outcomes),
     }

@@ -8,6 +8,7 @@ mod json;
 mod lines;
 mod outcomes;
 mod refusals;
+mod ruled;
 mod spanned_answers;
 mod spanned_lines;
 mod spanned_outcomes;

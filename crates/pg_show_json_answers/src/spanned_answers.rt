@@ -15,6 +15,7 @@ use crate::spanned_refusals::{tell_memory, tell_spans, tell_unread};
 use crate::verdict::verdict_line;
 use pg_answers::{Question, REFUSED, YES};
 use pg_codec::{Sink, Source, put_all};
+use pg_entry::Rules;
 use pg_event::Selection;
 use pg_report::AuditError;
 use pg_span_answers::{read_run, status_of};
@@ -76,15 +77,16 @@ fn answer_run<O: Sink, E: Sink>(
 
 fn certify_json<R: Source, O: Sink, E: Sink>(
     alloc: Global,
+    rules: Rules,
     input: &mut R,
     output: &mut O,
     errors: &mut E,
 ) -> u8
-    ensures { OrdersJson (streams R.Source O.Sink E.Sink
+    ensures { OrdersJson rules (streams R.Source O.Sink E.Sink
         (input.old, output.old, errors.old) (input.new, output.new, errors.new)) result }
 {
     match read_run(alloc, input) {
-        Ok(run) => answer_run(alloc, &run, output, errors),
+        Ok(run) => answer_run(alloc, &run.held_to(rules), output, errors),
         Err(why) => tell_unread(output, errors, why),
     }
 }
@@ -140,28 +142,29 @@ fn outcomes_json<R: Source, O: Sink, E: Sink>(
 }
 
 /// Writes the answer of a question of the record of version 3 or 4 on `input` as JSON, or an object
-/// to `errors` that says why there is none: whether the events have an order in which some run of
+/// to `errors` that says why there is none, where processors are held to these rules: whether the events have an order in which some run of
 /// the machine has them, the outcomes of an event in it, or the events with their spans. What is
 /// judged in one order is refused by the version. The record is held in memory whole, and nothing
 /// is written before it is ready. It gives the exit status: 0 yes, or shown, 1 no, 2 refused, or an
 /// event that is no access and no assist, 3 memory, 4 undecided.
 pub fn answer_spans_json<R: Source, O: Sink, E: Sink>(
     alloc: Global,
+    rules: Rules,
     question: Question,
     input: &mut R,
     output: &mut O,
     errors: &mut E,
 ) -> u8
-    ensures { AnswersSpans question (streams R.Source O.Sink E.Sink
+    ensures { AnswersSpans rules question (streams R.Source O.Sink E.Sink
         (input.old, output.old, errors.old) (input.new, output.new, errors.new)) result }
 {
     match question {
         Question::Check => tell_spans(output, errors),
         Question::CheckAll => tell_spans(output, errors),
-        Question::Certify => certify_json(alloc, input, output, errors),
-        Question::Explain => certify_json(alloc, input, output, errors),
-        Question::ExplainAt(_) => certify_json(alloc, input, output, errors),
-        Question::ExplainAll(_) => certify_json(alloc, input, output, errors),
+        Question::Certify => certify_json(alloc, rules, input, output, errors),
+        Question::Explain => certify_json(alloc, rules, input, output, errors),
+        Question::ExplainAt(_) => certify_json(alloc, rules, input, output, errors),
+        Question::ExplainAll(_) => certify_json(alloc, rules, input, output, errors),
         Question::Show(selection) => show_json(alloc, selection, input, output, errors),
         Question::Outcomes(event, most) => {
             outcomes_json(alloc, event, most, input, output, errors)

@@ -10,23 +10,39 @@ ghost use Rattle.pg_show_json_answers.specs.Verdicts.{never_fields, verdict_json
 
 use crate::cause::cause_json;
 use crate::edges::edges_json;
+use crate::ruled::{put_rests, ruled_fields};
+use pg_entry::Rules;
 use pg_show_json::{Fields, line_of, put_count, put_counts, put_flag, put_no, put_text, put_yes};
 use pg_span_answers::segments_of;
 use pg_span_refute::Edge;
 use pg_span_run::SpannedRun;
 use pg_span_verdict::Verdict;
-use serde_json::{Map, Value, put};
+use serde_json::{Value, put};
 use std::alloc::{AllocError, Global};
 
-/// The cause of a rejection, and whether it is one since all orders were tried.
-fn why_fields(alloc: Global, cause: Value, is_of_all: bool) -> Result<Fields, AllocError>
+/// The cause of a rejection, and whether it is one since all orders were tried, where processors are
+/// held to these rules.
+fn why_fields(
+    alloc: Global,
+    rules: Rules,
+    cause: Value,
+    is_of_all: bool,
+) -> Result<Fields, AllocError>
     ensures { (told : Json) → view cause ≡ data_of told →
-        IfOk result (λ m. members_view m.entries ≡ members_of (why_fields told is_of_all)) }
+        IfOk result (λ m. members_view m.entries ≡ members_of (why_fields rules told is_of_all)) }
 {
-    let mut fields = Map::new(alloc);
+    let mut fields = ruled_fields(alloc, rules)?;
+    put_rests(&mut fields, alloc, &None)?;
     put(&mut fields, alloc, "cause", cause)?;
     put_flag(&mut fields, alloc, "all_orders", is_of_all)?;
     Ok(fields)
+}
+
+/// The rules that the processors of a run are held to.
+fn rules_of(run: &SpannedRun) -> Rules
+    ensures { result ≡ run.now.head.cfg.rules }
+{
+    run.header().cfg.rules
 }
 
 fn never_fields(
@@ -39,7 +55,7 @@ fn never_fields(
         ≡ members_of (never_fields run.now event edges.now)) }
 {
     let cause = cause_json(alloc, run, event)?;
-    let mut fields = why_fields(alloc, cause, false)?;
+    let mut fields = why_fields(alloc, rules_of(run), cause, false)?;
     let edges = edges_json(alloc, edges)?;
     put(&mut fields, alloc, "deduced", edges)?;
     Ok(fields)
@@ -50,10 +66,10 @@ fn cause_fields(alloc: Global, run: &SpannedRun, verdict: &Verdict) -> Result<Fi
         members_view m.entries ≡ members_of (cause_fields run.now verdict.now)) }
 {
     match verdict {
-        Verdict::Yes(_) => Ok(Map::new(alloc)),
+        Verdict::Yes(_) => ruled_fields(alloc, rules_of(run)),
         Verdict::Never(event, edges) => never_fields(alloc, run, *event, edges),
-        Verdict::NoneOfAll(_) => why_fields(alloc, Value::Null, true),
-        Verdict::Undecided(_) => Ok(Map::new(alloc)),
+        Verdict::NoneOfAll(_) => why_fields(alloc, rules_of(run), Value::Null, true),
+        Verdict::Undecided(_) => ruled_fields(alloc, rules_of(run)),
     }
 }
 

@@ -1,7 +1,8 @@
 -- What `certify` answers of a record with no one order (versions 3 and 4).
 use Rattle.std.specs.Prelude.{◌≡◌, ◌⊎◌, ℕ, List, Option, Result, Ok, Err}
 use Rattle.pg_event.specs.declared.event.Event.{Event}
-use Rattle.pg_event.specs.Heads.{HoldsToAll}
+use Rattle.pg_entry.specs.declared.Rules.{Rules}
+use Rattle.pg_event.specs.Heads.{HoldsToAll, with_rules}
 use Rattle.pg_event.specs.Spelling.{Recorded, record_bytes}
 use Rattle.pg_run_of.specs.Law.{HasRun}
 use Rattle.pg_certify.specs.Certified.{IsCertified, HasRunButMoments}
@@ -171,15 +172,20 @@ TellsUnread Device output errors status =
     StaysSame output × Tells errors (refusal_line audits.Device) × (status ≡ 2)
 TellsUnread Memory output errors status = WantsMemory output errors status
 
--- what follows from the run that was read, or from why none was
-abbrev pub Follows : Asked → Result Spanned Unread → Change → Change → ℕ → Type 0
-Follows asked (Ok s) output errors status = AnswersRun asked s output errors status
-Follows asked (Err why) output errors status = TellsUnread why output errors status
+-- the same events and spans, of processors that are held to these rules
+abbrev pub held_to : Rules → Spanned → Spanned
+held_to rules s = record s { head = with_rules s.head rules }
+
+-- what follows from the run that was read, under these rules, or from why none was
+abbrev pub Follows : Rules → Asked → Result Spanned Unread → Change → Change → ℕ → Type 0
+Follows rules asked (Ok s) output errors status =
+    AnswersRun asked (held_to rules s) output errors status
+Follows rules asked (Err why) output errors status = TellsUnread why output errors status
 
 -- all that is promised of the answer of a record with no one order: where the bytes of the input
 -- are known, they spell the run that is answered, or this is their first refusal; and it is told of
 -- the device exactly where the input failed
-abbrev pub OrdersRecord : Asked → Streams → ℕ → Type 0
-OrdersRecord asked st status =
+abbrev pub OrdersRecord : Rules → Asked → Streams → ℕ → Type 0
+OrdersRecord rules asked st status =
     (read : Result Spanned Unread) × ReadsRun st.input.old.bytes read
-    × DeviceTold st.input read × Follows asked read st.output st.errors status
+    × DeviceTold st.input read × Follows rules asked read st.output st.errors status

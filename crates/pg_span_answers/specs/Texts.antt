@@ -3,6 +3,7 @@ use Rattle.std.specs.Prelude.{ℕ, List, [], ◌++◌, length, Option, Some, Non
 use Rattle.std.specs.List.{flat_map}
 use Rattle.pg_event.specs.Spelling.{segment_count}
 use Rattle.pg_report.specs.Text.{counts_text}
+use Rattle.pg_answers.specs.Ruled.{resting_line, rules_line}
 use Rattle.pg_span_verdict.specs.declared.verdict.Verdict.{Verdict}
 use Rattle.pg_span_verdict.specs.declared.verdict.Verdict.TheVariants.{Yes, Never}
 use Rattle.pg_span_verdict.specs.declared.verdict.Verdict.TheVariants.{NoneOfAll, Undecided}
@@ -47,9 +48,22 @@ cause_of s (Never n edges) = cause_text s n ++ flat_map edge_line edges.items
 cause_of s (NoneOfAll n) = none_of_all
 cause_of s (Undecided n) = []
 
--- the report, and after a no its cause
+-- that it is not asked which rules a no rests on
+abbrev pub not_asked : List ℕ
+not_asked = resting_line [] (codes "not asked of a record with spans")
+
+abbrev pub rests_of : Verdict → List ℕ
+rests_of (Yes order) = []
+rests_of (Never n edges) = not_asked
+rests_of (NoneOfAll n) = not_asked
+rests_of (Undecided n) = []
+
+-- the report, and after a no its cause; and the rules that processors are held to, where these are
+-- not all
 abbrev pub report_text : Spanned → Verdict → List ℕ
-report_text s verdict = head_text verdict ++ counts_of s ++ cause_of s verdict
+report_text s verdict =
+    head_text verdict ++ counts_of s ++ cause_of s verdict ++ rests_of verdict
+    ++ rules_line s.head.cfg.rules
 
 -- the picture of the cause, where that is of one event, and else the report
 abbrev pub drawn_text : Spanned → Verdict → List ℕ

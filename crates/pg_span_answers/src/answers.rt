@@ -22,6 +22,7 @@ use crate::refusals::tell_refusal;
 use crate::texts::{drawn_text, order_text, report_text, trace_text};
 use pg_answers::{MEMORY, NO, REFUSED, YES, event_outcomes_status, tell};
 use pg_codec::{Sink, Source, put_all, write_record};
+use pg_entry::Rules;
 use pg_event::{Event, Header};
 use pg_report::AuditError;
 use pg_span_run::SpannedRun;
@@ -368,21 +369,22 @@ pub(crate) fn tell_unread<O: Sink, E: Sink>(output: &mut O, errors: &mut E, why:
 /// asked for, the picture of a no's cause is written in the place of its report. Where a trace is
 /// asked for, the trace of the record is written. Nothing is written before it is ready. It gives
 /// the exit status: 0 yes, 1 no, 2 refused, or an event that is no access and no assist, 3 memory,
-/// 4 undecided.
+/// 4 undecided. Processors are held to these rules.
 ///
 /// The record is held in memory whole.
 pub fn certify_spanned<R: Source, O: Sink, E: Sink>(
     alloc: Global,
+    rules: Rules,
     asked: Asked,
     input: &mut R,
     output: &mut O,
     errors: &mut E,
 ) -> u8
-    ensures { OrdersRecord asked (streams R.Source O.Sink E.Sink
+    ensures { OrdersRecord rules asked (streams R.Source O.Sink E.Sink
         (input.old, output.old, errors.old) (input.new, output.new, errors.new)) result }
 {
     match read_run(alloc, input) {
-        Ok(run) => answer_run(alloc, asked, &run, output, errors),
+        Ok(run) => answer_run(alloc, asked, &run.held_to(rules), output, errors),
         Err(why) => tell_unread(output, errors, why),
     }
 }

@@ -4,8 +4,9 @@ ghost use Rattle.std.specs.Prelude.{◌≡◌, ◌++◌, IfOk, OnOk, codes, deci
 ghost use Rattle.std.specs.List.{flat_map};
 ghost use Rattle.pg_span_answers.specs.Texts.{report_text, order_text, segments_of};
 ghost use Rattle.pg_span_answers.specs.Texts.{counts_of, head_text, cause_of, none_of_all};
-ghost use Rattle.pg_span_answers.specs.Texts.{drawn_text, edge_line, never_in, trace_text};
+ghost use Rattle.pg_span_answers.specs.Texts.{drawn_text, edge_line, never_in, rests_of, trace_text};
 
+use pg_answers::push_rules_line;
 use pg_show_trace::spanned_verdict_trace;
 use pg_span_refute::Edge;
 use pg_span_run::SpannedRun;
@@ -15,6 +16,9 @@ use std::alloc::{AllocError, Global};
 
 /// The cause of a rejection where all orders were tried.
 const NONE_OF_ALL: &str = "all orders: each was tried, and none has a run\n";
+
+/// What is told of the rules that a rejection rests on.
+const NOT_ASKED: &str = "rests on: not asked of a record with spans\n";
 
 /// How many segments hold all events of a run.
 pub fn segments_of(run: &SpannedRun) -> u64
@@ -89,7 +93,18 @@ fn push_cause(
     }
 }
 
-/// The report of a verdict on a run, and after a no its cause.
+/// Appends after a no that it is not asked which rules it rests on.
+fn push_rests(text: &mut String, verdict: &Verdict) -> Result<(), AllocError>
+    ensures { OnOk result (string_bytes text.new ≡ string_bytes text.old ++ rests_of verdict.now) }
+{
+    match verdict {
+        Verdict::Never(..) | Verdict::NoneOfAll(_) => text.push_str(NOT_ASKED),
+        Verdict::Yes(_) | Verdict::Undecided(_) => Ok(()),
+    }
+}
+
+/// The report of a verdict on a run, and after a no its cause; and the rules that its processors are
+/// held to, where these are not all.
 pub(crate) fn report_text(
     alloc: Global,
     run: &SpannedRun,
@@ -101,6 +116,8 @@ pub(crate) fn report_text(
     let counts = counts_of(alloc, run)?;
     text.push_str(counts.as_str())?;
     push_cause(alloc, &mut text, run, verdict)?;
+    push_rests(&mut text, verdict)?;
+    push_rules_line(alloc, &mut text, run.header().cfg.rules)?;
     Ok(text)
 }
 

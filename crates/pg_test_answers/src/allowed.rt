@@ -68,6 +68,7 @@ $ certify
 > last: never
 > allowed: 0x9123 by 4 4 4 4
 > allowed: fault 0x4 by 5 5 5 5
+> rests on: nothing that can be left out
 ? 1
 
 == two_outcomes_behind_a_no_of_explain
@@ -88,6 +89,7 @@ $ explain
 > last: never
 > allowed: 0x9123 by 4 4 4 4
 > allowed: fault 0x4 by 5 5 5 5
+> rests on: by any moments: nothing that can be left out
 ? 1
 
 # Later rejections follow an impossible history.
@@ -129,6 +131,7 @@ $ certify --bytes
 ! last: never
 ! allowed: 0x9123 by 4 4 4 4
 ! allowed: fault 0x4 by 5 5 5 5
+! rests on: nothing that can be left out
 ? 1
 
 == sixteen_of_seventeen_outcomes
@@ -163,6 +166,7 @@ $ certify
 > allowed: 0x17123 by 18 18 18 18
 > allowed: 0x18123 by 19 19 19 19
 > allowed: 1 more
+> rests on: nothing that can be left out
 ? 1
 
 == sixteen_of_seventeen_outcomes_as_json
@@ -182,7 +186,8 @@ $ certify --json
 >+ "word":"0x2000","written_by":1},{"is":"table","level":2,"moment":20,"pcid":"0x1",
 >+ "value":"0x4007","word":"0x3000","written_by":2},{"is":"leaf","level":1,"moment":20,
 >+ "pcid":"0x1","value":"0x19007","word":"0x4028","written_by":19}]},"event":20,"events":21,
-> "format":1,"reason":14,"reason_name":"no moments","segments":1,"verdict":"no"}
+>+ "format":1,"reason":14,"reason_name":"no moments",
+> "rests_on":{"alone":[],"together":false},"segments":1,"verdict":"no"}
 ? 1
 
 == no_outcomes_of_an_assist
@@ -200,6 +205,7 @@ $ certify
 > now: level 1 [0x4028] = 0x9025 leaf, written by event 3
 > now: would give fault 0x7 (present write user)
 > last: never
+> rests on: nothing that can be left out
 ? 1
 
 == no_outcomes_of_an_assist_as_json
@@ -213,7 +219,8 @@ $ certify --json
 >+ "pcid":"0x0","value":"0x3027","word":"0x2000","written_by":1},{"is":"table","level":2,
 >+ "moment":4,"pcid":"0x0","value":"0x4027","word":"0x3000","written_by":2},{"is":"leaf","level":1,
 >+ "moment":4,"pcid":"0x0","value":"0x9025","word":"0x4028","written_by":3}]},"event":4,"events":5,
-> "format":1,"reason":14,"reason_name":"no moments","segments":1,"verdict":"no"}
+>+ "format":1,"reason":14,"reason_name":"no moments",
+> "rests_on":{"alone":[],"together":false},"segments":1,"verdict":"no"}
 ? 1
 
 == event_before_the_bad_one_explained
@@ -258,6 +265,7 @@ $ explain --event 7
 > final: no moments prove this access
 > last: moment 6 by 5 5 5 5; taken by 6 cpu 0 invlpg 0x5000
 > allowed: fault 0x4 by 7 7 7 7
+> rests on: by any moments: nothing that can be left out
 ? 1
 
 == event_behind_the_bad_one_explained
@@ -277,6 +285,7 @@ $ explain --event 8
 > final: no moments prove this access
 > last: moment 6 by 5 5 5 5; taken by 6 cpu 0 invlpg 0x5000
 > allowed: fault 0x4 by 7 7 7 7
+> rests on: by any moments: nothing that can be left out
 ? 1
 
 == invalidation_explained
@@ -308,6 +317,7 @@ $ explain --event 8
 > now: would give fault 0x4 (user)
 > last: moment 6 by 5 5 5 5; taken by 6 cpu 0 invlpg 0x5000
 > allowed: fault 0x4 by 7 7 7 7
+> rests on: nothing that can be left out
 ? 1
 
 == event_of_a_no_by_certify_explained
@@ -326,6 +336,7 @@ $ explain --event 7
 > now: would give fault 0x4 (user)
 > last: moment 6 by 5 5 5 5; taken by 6 cpu 0 invlpg 0x5000
 > allowed: fault 0x4 by 7 7 7 7
+> rests on: nothing that can be left out
 ? 1
 
 == event_before_a_no_by_certify_explained

@@ -25,6 +25,7 @@ $ explain
 > moments: level 1 at 5 is above event 4
 > other moments would: 4 4 4 4
 > allowed: 0x9123 by 4 4 4 4
+> rests on: by any moments: no rule, since others witness the event
 ? 1
 
 == reserved_leaf_read_before_it_was_written
@@ -50,6 +51,7 @@ $ explain
 > wished: reserved at level 1, found absent
 > other moments would: 4 4 4 4
 > allowed: fault 0xd by 4 4 4 4
+> rests on: by any moments: no rule, since others witness the event
 ? 1
 
 == walk_across_a_change_of_pcid
@@ -76,6 +78,7 @@ $ explain
 > pcids: 0x1 at moment 4, 0x2 at moment 5
 > other moments would: 5 5 5 5
 > allowed: 0x9123 by 5 5 5 5
+> rests on: by any moments: no rule, since others witness the event
 ? 1
 
 == structure_entry_dropped_by_invpcid
@@ -102,6 +105,7 @@ $ explain
 > dropped: structure entry of level 3 by 4 cpu 1 invpcid 1 0x1 0x0
 > other moments would: 5 5 5 5
 > allowed: 0x9123 by 5 5 5 5
+> rests on: by any moments: no rule, since others witness the event
 ? 1
 ";
 
@@ -129,6 +133,7 @@ $ explain
 > dropped: translation of level 2 by 3 cpu 0 invlpg 0x5000
 > other moments would: 4 4 4
 > allowed: 0x605123 by 4 4 4
+> rests on: by any moments: no rule, since others witness the event
 ? 1
 
 == global_bit_read_with_pge_off
@@ -155,6 +160,7 @@ $ explain
 > pcids: 0x1 at moment 4, 0x2 at moment 5
 > other moments would: 5 5 5 5
 > allowed: 0x9123 by 5 5 5 5
+> rests on: by any moments: no rule, since others witness the event
 ? 1
 
 == absent_root_entry_read_before_the_fault
@@ -175,6 +181,7 @@ $ explain
 > held: [0x1000] = 0x2007 table at the event, read at moment 1
 > other moments would: 2 2
 > allowed: fault 0x4 by 2 2
+> rests on: by any moments: no rule, since others witness the event
 ? 1
 
 == without_moments_as_certify
@@ -202,6 +209,7 @@ $ explain
 > now: would give fault 0x4 (user)
 > last: moment 5 by 4 4 4 4; taken by 5 cpu 0 invlpg 0x5000
 > allowed: fault 0x4 by 6 6 6 6
+> rests on: nothing that can be left out
 ? 1
 ";
 
@@ -231,6 +239,7 @@ $ explain
 > final: no moments prove this access
 > last: never
 > allowed: 0x9123 by 4 4 4 4
+> rests on: by any moments: nothing that can be left out
 ? 1
 
 == rights_kept_from_an_old_leaf
@@ -259,6 +268,7 @@ $ explain
 > final: no moments prove this access
 > last: moment 5 by 4 4 4 4; taken by 5 cpu 0 invlpg 0x5000
 > allowed: fault 0x7 by 6 6 6 6
+> rests on: by any moments: nothing that can be left out
 ? 1
 
 == fault_of_a_fetch_without_bit_4
@@ -285,6 +295,7 @@ $ explain
 > final: no moments prove this access
 > last: never
 > allowed: fault 0x14 by 4 4 4 4
+> rests on: by any moments: nothing that can be left out
 ? 1
 
 == denied_write_of_a_writable_page
@@ -311,6 +322,7 @@ $ explain
 > final: no moments prove this access
 > last: never
 > allowed: 0x9123 by 4 4 4 4
+> rests on: by any moments: nothing that can be left out
 ? 1
 
 == supervisor_read_of_a_user_page_with_smap
@@ -338,6 +350,7 @@ $ explain
 > final: no moments prove this access
 > last: never
 > allowed: fault 0x1 by 4 4 4 4
+> rests on: by any moments: nothing that can be left out
 ? 1
 
 == supervisor_fetch_of_a_user_page_with_smep
@@ -365,6 +378,7 @@ $ explain
 > final: no moments prove this access
 > last: never
 > allowed: fault 0x11 by 4 4 4 4
+> rests on: by any moments: nothing that can be left out
 ? 1
 ";
 
@@ -394,6 +408,7 @@ $ explain
 > final: no moments prove this access
 > last: never
 > allowed: none
+> rests on: by any moments: nothing that can be left out
 ? 1
 
 == version_2_assist_read_before_the_event
@@ -419,6 +434,7 @@ $ explain
 > level 1: moment 4 pcid 0x1 [0x4028] = 0x9027 leaf, written by event 3
 > assist: read at moment 4, not at the event
 > other moments would: 5 5 5 5
+> rests on: by any moments: no rule, since others witness the event
 ? 1
 
 == version_2_dirty_assist_of_a_table
@@ -443,6 +459,7 @@ $ explain
 > assist: dirty wishes leaf, found table
 > final: no moments prove this assist
 > last: never
+> rests on: by any moments: nothing that can be left out
 ? 1
 
 == version_2_dirty_assist_of_a_read_only_leaf
@@ -468,5 +485,6 @@ $ explain
 > assist: dirty is denied by rights -u-
 > final: no moments prove this assist
 > last: never
+> rests on: by any moments: nothing that can be left out
 ? 1
 ";

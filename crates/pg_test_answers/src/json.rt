@@ -61,7 +61,8 @@ $ explain --json
 >+ "value":"0x3007","word":"0x2000","written_by":1},{"is":"table","level":2,"moment":4,"pcid":"0x1",
 >+ "value":"0x4007","word":"0x3000","written_by":2},{"is":"leaf","level":1,"moment":4,"pcid":"0x1",
 >+ "value":"0x9007","word":"0x4028","written_by":3}]},"event":6,"events":7,"format":1,"reason":5,
-> "reason_name":"translation dropped","segments":1,"verdict":"no"}
+>+ "reason_name":"translation dropped",
+> "rests_on":{"alone":[],"together":false},"segments":1,"verdict":"no"}
 ? 1
 
 == all_explained
@@ -110,7 +111,8 @@ $ certify --json
 >+ "level":3,"moment":6,"pcid":"0x1","value":"0x3007","word":"0x2000","written_by":1},{"is":"table",
 >+ "level":2,"moment":6,"pcid":"0x1","value":"0x4007","word":"0x3000","written_by":2},
 >+ {"is":"absent","level":1,"moment":6,"pcid":"0x1","value":"0x0","word":"0x4028","written_by":4}]},
->+ "event":6,"events":7,"format":1,"reason":14,"reason_name":"no moments","segments":1,
+>+ "event":6,"events":7,"format":1,"reason":14,"reason_name":"no moments",
+>+ "rests_on":{"alone":[],"together":false},"segments":1,
 > "verdict":"no"}
 ? 1
 
@@ -134,7 +136,8 @@ $ certify --json
 >+ "level":2,"moment":4,"pcid":"0x1","value":"0x4027","word":"0x3000","written_by":2},
 >+ {"is":"leaf","level":1,"moment":4,"pcid":"0x1","value":"0x9027","word":"0x4028",
 >+ "written_by":3}]},
->+ "event":4,"events":5,"format":1,"reason":14,"reason_name":"no moments","segments":1,
+>+ "event":4,"events":5,"format":1,"reason":14,"reason_name":"no moments",
+>+ "rests_on":{"alone":[],"together":false},"segments":1,
 > "verdict":"no"}
 ? 1
 

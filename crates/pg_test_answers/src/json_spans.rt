@@ -46,7 +46,8 @@ $ certify --json
 >+ {"is":"leaf","level":1,"page":"0xa000","value":"0xa007","word":"0x4028","written_by":4}],
 >+ "no_memory_gives":false,"read_after":{"address":"0x5000","began":5,"cpu":1,"event":5,
 >+ "kind":"invlpg"}},"deduced":[],
-> "event":6,"events":7,"format":1,"reason":15,"reason_name":"no order","segments":1,"verdict":"no"}
+>+ "event":6,"events":7,"format":1,"reason":15,"reason_name":"no order",
+> "rests_on":null,"segments":1,"verdict":"no"}
 ? 1
 
 == spans_of_a_no_explained
@@ -61,7 +62,8 @@ $ explain --all --json
 >+ {"is":"leaf","level":1,"page":"0xa000","value":"0xa007","word":"0x4028","written_by":4}],
 >+ "no_memory_gives":false,"read_after":{"address":"0x5000","began":5,"cpu":1,"event":5,
 >+ "kind":"invlpg"}},"deduced":[],
-> "event":6,"events":7,"format":1,"reason":15,"reason_name":"no order","segments":1,"verdict":"no"}
+>+ "event":6,"events":7,"format":1,"reason":15,"reason_name":"no order",
+> "rests_on":null,"segments":1,"verdict":"no"}
 ? 1
 
 == spans_of_a_no_where_global_ones_may_stay
@@ -76,7 +78,8 @@ $ certify --json
 >+ {"is":"leaf","level":1,"page":"0xa000","value":"0xa067","word":"0x4028","written_by":4}],
 >+ "no_memory_gives":false,"read_after":{"began":5,"cpu":1,"event":5,"kind":"cr3",
 >+ "operand":"0x1001"}},"deduced":[],
-> "event":6,"events":7,"format":1,"reason":15,"reason_name":"no order","segments":1,"verdict":"no"}
+>+ "event":6,"events":7,"format":1,"reason":15,"reason_name":"no order",
+> "rests_on":null,"segments":1,"verdict":"no"}
 ? 1
 
 == spans_of_a_no_behind_no_event
@@ -91,14 +94,14 @@ $ explain --json
 >+ "written_by":2},{"is":"leaf","level":1,"page":"0x9000","value":"0x9007","word":"0x4028",
 >+ "written_by":3}],"no_memory_gives":false,"read_after":null},"deduced":[],"event":5,"events":6,
 >+ "format":1,"reason":15,
-> "reason_name":"no order","segments":1,"verdict":"no"}
+> "reason_name":"no order","rests_on":null,"segments":1,"verdict":"no"}
 ? 1
 
 == all_orders_tried
 $ certify --json
 < @new_then_old
 >+ {"all_orders":true,"cause":null,"event":6,"events":8,"format":1,"reason":15,
->+ "reason_name":"no order",
+>+ "reason_name":"no order","rests_on":null,
 > "segments":1,"verdict":"no"}
 ? 1
 
@@ -116,7 +119,7 @@ $ certify --json
 >+ "began":68,"cpu":1,"event":68,
 >+ "kind":"invlpg"}},"deduced":[{"first":70,"second":67}],"event":69,"events":71,"format":1,
 >+ "reason":15,
-> "reason_name":"no order","segments":1,"verdict":"no"}
+> "reason_name":"no order","rests_on":null,"segments":1,"verdict":"no"}
 ? 1
 
 == spans_shown

@@ -162,6 +162,7 @@ $ outcomes
 > may read: level 2 [0x3000] = 0x4007 table, written by event 2
 > may read: level 1 [0x4028] = 0xa007 leaf 0xa000, written by event 4
 > can't read: [0x4028] = 0x9007, written by event 3: event 4 overwrites it and comes before event 5
+> rests on: not asked of a record with spans
 ? 1
 
 == outcomes_of_spans_without_an_order_as_certify
@@ -179,6 +180,7 @@ $ outcomes --event 1
 > may read: level 2 [0x3000] = 0x4007 table, written by event 2
 > may read: level 1 [0x4028] = 0xa007 leaf 0xa000, written by event 4
 > can't read: [0x4028] = 0x9007, written by event 3: event 4 overwrites it and comes before event 5
+> rests on: not asked of a record with spans
 ? 1
 
 == outcomes_of_undecided_spans
@@ -259,7 +261,7 @@ $ outcomes --json --event 4
 $ outcomes --json
 < @new_then_old
 >+ {"all_orders":true,"cause":null,"event":6,"events":8,"format":1,"reason":15,
-> "reason_name":"no order","segments":1,"verdict":"no"}
+> "reason_name":"no order","rests_on":null,"segments":1,"verdict":"no"}
 ? 1
 
 == outcomes_of_undecided_spans_as_json

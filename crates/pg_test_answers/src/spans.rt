@@ -226,6 +226,7 @@ $ certify
 > may read: level 2 [0x3000] = 0x4007 table, written by event 2
 > may read: level 1 [0x4028] = 0xa007 leaf 0xa000, written by event 4
 > can't read: [0x4028] = 0x9007, written by event 3: event 4 overwrites it and comes before event 5
+> rests on: not asked of a record with spans
 ? 1
 
 == stale_leaf_in_no_order_explained
@@ -243,6 +244,7 @@ $ explain
 > may read: level 2 [0x3000] = 0x4007 table, written by event 2
 > may read: level 1 [0x4028] = 0xa007 leaf 0xa000, written by event 4
 > can't read: [0x4028] = 0x9007, written by event 3: event 4 overwrites it and comes before event 5
+> rests on: not asked of a record with spans
 ? 1
 
 # The first read is placed behind the write, and the second then in no order.
@@ -255,6 +257,7 @@ $ certify
 > events: 8
 > segments: 1
 > all orders: each was tried, and none has a run
+> rests on: not asked of a record with spans
 ? 1
 
 == reads_that_exclude_one_another_explained
@@ -266,6 +269,7 @@ $ explain
 > events: 8
 > segments: 1
 > all orders: each was tried, and none has a run
+> rests on: not asked of a record with spans
 ? 1
 
 # The write comes before the first read, so that its value is gone at the second.
@@ -285,6 +289,7 @@ $ certify
 > may read: level 1 [0x4028] = 0x9007 leaf 0x9000, written by event 3
 > may read: level 1 [0x4028] = 0xa007 leaf 0xa000, written by event 70
 > deduced: event 70 comes before event 67, or no run comes to event 67
+> rests on: not asked of a record with spans
 ? 1
 
 == order_of_a_no_not_written
@@ -302,6 +307,7 @@ $ certify --order
 ! may read: level 2 [0x3000] = 0x4007 table, written by event 2
 ! may read: level 1 [0x4028] = 0xa007 leaf 0xa000, written by event 4
 ! can't read: [0x4028] = 0x9007, written by event 3: event 4 overwrites it and comes before event 5
+! rests on: not asked of a record with spans
 ? 1
 
 == order_that_is_not_that_of_the_ends_written

@@ -43,16 +43,19 @@ const CHECK_HELP: &str = "Check whether the moments of a record justify its even
     \x20     --all            Judge every event, and write a summary after the report\n\
     \x20     --first          Answer at the first event that is rejected, and read no further\n\
     \x20     --json           Write JSON instead of text\n\
+    \x20     --rules <RULES>  Rules that processors are held to: intel (default), amd or lax, then \
+    ,-RULE or ,+RULE\n\
     \x20     --progress       Report each second how many events were read, on standard error\n\
     \x20     --output <FILE>  Write to this file instead of standard output, which - stands for\n\
     \x20 -q, --quiet          Write nothing to standard output: the exit status is the answer\n\
     \x20 -h, --help           Print help\n";
 
-/// Of what is no number, address or page.
+/// Of what is no number, address, page or rules.
 const NO_NUMBER: &str =
     "error: a number is given by digits alone, an address by 0x and 1 to 16 hexadecimal \
     digits,\n\
-    \x20 and a page by an address that is canonical\n\
+    \x20 a page by an address that is canonical, and rules by intel, amd or lax, and then\n\
+    \x20 -RULE or +RULE behind commas\n\
     \n\
     For more information, try '--help'.\n";
 
@@ -70,7 +73,8 @@ const CONFLICT: &str = "error: --json, --bytes, --order, --svg, --trace and --fi
     --loads,\n\
     \x20 --single and --progress, and --quiet and each of --output, --bytes, --order, --svg and\n\
     \x20 --trace; several files exclude --json, --bytes, --svg and --trace; --loads goes with \
-    --page\n\
+    --page;\n\
+    \x20 --rules excludes --bytes, --first and --trace\n\
     \n\
     For more information, try '--help'.\n";
 
@@ -111,6 +115,8 @@ pub const TEXTS: [Told; 12] = [
         further\n\
         \x20     --json           Write JSON instead of text\n\
         \x20     --trace          Write a trace for Perfetto instead of text\n\
+        \x20     --rules <RULES>  Rules that processors are held to: intel (default), amd or lax, \
+        then ,-RULE or ,+RULE\n\
         \x20     --progress       Report each second how many events were read, on standard \
         error\n\
         \x20     --output <FILE>  Write to this file instead of standard output, which - stands \
@@ -168,6 +174,8 @@ pub const TEXTS: [Told; 12] = [
         \x20 [FILE]  The file to read; standard input by default, or for -\n\
         \n\
         Options:\n\
+        \x20     --rules <RULES>  Rules that processors are held to: intel (default), amd or lax, \
+        then ,-RULE or ,+RULE\n\
         \x20     --progress       Report each second how many events were read, on standard \
         error\n\
         \x20     --output <FILE>  Write to this file instead of standard output, which - stands \
@@ -195,6 +203,8 @@ pub const TEXTS: [Told; 12] = [
         the outcomes it may have\n\
         \x20     --json           Write JSON instead of text\n\
         \x20     --trace          Write a trace for Perfetto instead of text\n\
+        \x20     --rules <RULES>  Rules that processors are held to: intel (default), amd or lax, \
+        then ,-RULE or ,+RULE\n\
         \x20     --progress       Report each second how many events were read, on standard \
         error\n\
         \x20     --output <FILE>  Write to this file instead of standard output, which - stands \
@@ -224,6 +234,8 @@ pub const TEXTS: [Told; 12] = [
         \x20     --to <B>         Number of the last event to write (default: the last event)\n\
         \x20     --json           Write JSON instead of text, an object a line\n\
         \x20     --trace          Write a trace for Perfetto instead of text\n\
+        \x20     --rules <RULES>  Rules that processors are held to: intel (default), amd or lax, \
+        then ,-RULE or ,+RULE\n\
         \x20     --output <FILE>  Write to this file instead of standard output, which - stands \
         for\n\
         \x20 -q, --quiet          Write nothing to standard output: the exit status is the \

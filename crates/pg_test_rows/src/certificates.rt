@@ -74,6 +74,7 @@ $ certify
 > now: would give fault 0x4 (user)
 > last: moment 5 by 4 4 4 4; taken by 5 cpu 0 invlpg 0x5000
 > allowed: fault 0x4 by 6 6 6 6
+> rests on: nothing that can be left out
 ? 1
 
 # Reads change nothing: the numbers of the entries' writers are not their ranks. The fault that
@@ -107,6 +108,7 @@ $ certify
 > now: would give fault 0x4 (user)
 > last: moment 6 by 5 5 5 5; taken by 6 cpu 0 user read 0x5123 -> fault 0x4 (user) moments 6 6 6 6
 > allowed: fault 0x4 by 7 7 7 7
+> rests on: fault-translations (Intel SDM, vol. 3, 4.10.4.1)
 ? 1
 
 == certified_by_an_upper_entry_that_is_kept
@@ -181,6 +183,7 @@ $ certify
 > now: would give 0x9123
 > last: moment 4 by 4 4 4 4; taken by 4 cpu 0 write [0x4028] = 0x9007
 > allowed: 0x9123 by 5 5 5 5
+> rests on: nothing that can be left out
 ? 1
 
 == certified_across_a_load_of_cr3_that_drops_nothing
@@ -226,6 +229,7 @@ $ certify
 > now: would give fault 0x4 (user)
 > last: moment 5 by 4 4 4 4; taken by 5 cpu 0 cr3 0x1001
 > allowed: fault 0x4 by 6 6 6 6
+> rests on: nothing that can be left out
 ? 1
 
 == certified_assists
@@ -271,6 +275,7 @@ $ certify
 > now: dirty: bit 6 of [0x4028] = 0x9027 is 0
 > last: never
 > allowed: none
+> rests on: nothing that can be left out
 ? 1
 
 # A write that the rights deny sets A first.
@@ -298,6 +303,7 @@ $ certify
 > now: accessed: bit 5 of [0x4028] = 0x9005 is 0
 > last: never
 > allowed: none
+> rests on: nothing that can be left out
 ? 1
 
 # The first of two entries without A is named.
@@ -325,6 +331,7 @@ $ certify
 > now: accessed: bit 5 of [0x2000] = 0x3007 is 0
 > last: never
 > allowed: none
+> rests on: nothing that can be left out
 ? 1
 
 # The answer is another one, whatever the flags.
@@ -351,6 +358,7 @@ $ certify
 > now: would give 0x9123
 > last: never
 > allowed: none
+> rests on: nothing that can be left out
 ? 1
 
 # An absent entry is not used, so it needs no flag: only the code is another one.
@@ -373,6 +381,7 @@ $ certify
 > now: would give fault 0x6 (write user)
 > last: never
 > allowed: fault 0x6 by 2 2
+> rests on: nothing that can be left out
 ? 1
 
 == denied_never
@@ -398,6 +407,7 @@ $ certify
 > now: would give 0x9123
 > last: never
 > allowed: 0x9123 by 4 4 4 4
+> rests on: nothing that can be left out
 ? 1
 
 == denied_at_the_least_event
@@ -424,6 +434,7 @@ $ certify
 > now: would give 0x9123
 > last: never
 > allowed: 0x9123 by 4 4 4 4
+> rests on: nothing that can be left out
 ? 1
 
 == denied_write_of_a_page_that_is_read_only_now
@@ -451,6 +462,7 @@ $ certify
 > now: would give fault 0x7 (present write user)
 > last: moment 5 by 4 4 4 4; taken by 5 cpu 0 invlpg 0x5000
 > allowed: fault 0x7 by 6 6 6 6
+> rests on: nothing that can be left out
 ? 1
 
 == denied_answer_by_a_reserved_leaf
@@ -476,6 +488,7 @@ $ certify
 > now: would give fault 0xd (present user reserved)
 > last: never
 > allowed: fault 0xd by 4 4 4 4
+> rests on: nothing that can be left out
 ? 1
 
 == denied_answer_by_a_page_of_2_mb
@@ -499,6 +512,7 @@ $ certify
 > now: would give 0x605123
 > last: never
 > allowed: 0x605123 by 3 3 3
+> rests on: nothing that can be left out
 ? 1
 
 == denied_dirty_assist_of_a_read_only_leaf
@@ -523,5 +537,6 @@ $ certify
 > now: level 1 [0x4028] = 0x9025 leaf, written by event 3
 > now: would give fault 0x7 (present write user)
 > last: never
+> rests on: nothing that can be left out
 ? 1
 ";

@@ -24,6 +24,7 @@ $ certify --first
 > now: would give 0x9123
 > last: never
 > allowed: 0x9123 by 7 7 7 7
+> rests on: nothing that can be left out
 ? 1
 
 == the_same_read_to_its_end

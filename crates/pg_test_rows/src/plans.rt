@@ -23,7 +23,6 @@ fn quiet(command: Command) -> Plan {
         command,
         progress: false,
         quiet: false,
-        rules: Rules::ALL,
     }
 }
 
@@ -71,12 +70,12 @@ fn checked(number: u32, all: bool, progress: bool) -> Option<Plan> {
         all,
         first: false,
         json: false,
+        rules: Rules::ALL,
     };
     Some(Plan {
         command: Command::Check(asked),
         progress,
         quiet: false,
-        rules: Rules::ALL,
     })
 }
 
@@ -95,9 +94,38 @@ fn plan_of_a_check_up_to_the_first_bad_event(rt: HostRuntime) {
         all: false,
         first: true,
         json: false,
+        rules: Rules::ALL,
     };
     let wanted = Some(quiet(Command::Check(asked)));
     assert!(rt; asks_for(rt.alloc(), &["check", "--first"], wanted));
+}
+
+/// Values of `--rules`, and the flags of the rules that they name.
+const RULED: [(&str, u8); 9] = [
+    ("intel", 31),
+    ("amd", 24),
+    ("lax", 0),
+    ("intel,-fault-globals", 29),
+    ("intel,-fault-globals,-fault-structures", 25),
+    ("lax,+invlpg-structures", 8),
+    ("amd,+fault-translations,-invpcid-structures", 9),
+    ("lax,+invpcid-structures,+invpcid-structures", 16),
+    ("amd,-fault-globals", 24),
+];
+
+#[test]
+fn plans_of_rules(rt: HostRuntime) {
+    for &(value, flags) in &RULED {
+        let asked = CheckOptions {
+            checkers: Checkers::default(),
+            all: false,
+            first: false,
+            json: false,
+            rules: Rules(flags),
+        };
+        let wanted = Some(quiet(Command::Check(asked)));
+        assert!(rt; asks_for(rt.alloc(), &["check", "--rules", value], wanted), "{value}");
+    }
 }
 
 /// Command lines of `certify`: how many checkers they ask for, whether for the record, for the
@@ -150,6 +178,7 @@ fn certified(number: u32, options: [bool; 5]) -> Option<Plan> {
         first,
         json,
         trace,
+        rules: Rules::ALL,
     };
     Some(quiet(Command::Certify(asked)))
 }
@@ -187,7 +216,6 @@ fn run(number: u32, options: [bool; 3]) -> Option<Plan> {
         command: Command::Run(asked),
         progress,
         quiet: false,
-        rules: Rules::ALL,
     })
 }
 
@@ -265,6 +293,7 @@ fn plans_of_show(rt: HostRuntime) {
             selection,
             json: false,
             trace: false,
+            rules: Rules::ALL,
         };
         let wanted = Some(quiet(Command::Show(asked)));
         assert!(rt; asks_for(rt.alloc(), words, wanted), "{words:?}");
@@ -300,12 +329,12 @@ fn plans_of_explain(rt: HostRuntime) {
             telling,
             json: false,
             trace: false,
+            rules: Rules::ALL,
         };
         let wanted = Some(Plan {
             command: Command::Explain(asked),
             progress,
             quiet: false,
-            rules: Rules::ALL,
         });
         assert!(rt; asks_for(rt.alloc(), words, wanted), "{words:?}");
     }
@@ -336,9 +365,10 @@ fn plans_of_outcomes(rt: HostRuntime) {
 }
 
 /// Command lines of commands that have no options of their own, and whether they ask for progress.
-const PLAIN: [(&[&str], Command, bool); 4] = [
-    (&["run-of"], Command::RunOf, false),
-    (&["run-of", "--progress"], Command::RunOf, true),
+const PLAIN: [(&[&str], Command, bool); 5] = [
+    (&["run-of"], Command::RunOf(Rules::ALL), false),
+    (&["run-of", "--progress"], Command::RunOf(Rules::ALL), true),
+    (&["run-of", "--rules", "lax"], Command::RunOf(Rules::LAX), false),
     (&["upgrade"], Command::Upgrade, false),
     (&["upgrade", "--progress"], Command::Upgrade, true),
 ];
@@ -350,7 +380,6 @@ fn plans_of_plain_commands(rt: HostRuntime) {
             command,
             progress,
             quiet: false,
-            rules: Rules::ALL,
         });
         assert!(rt; asks_for(rt.alloc(), words, wanted), "{words:?}");
     }
@@ -363,6 +392,7 @@ fn plain_check() -> Command {
         all: false,
         first: false,
         json: false,
+        rules: Rules::ALL,
     })
 }
 
@@ -437,7 +467,6 @@ fn plans_of_the_status_alone(rt: HostRuntime) {
             command: plain_check(),
             progress: false,
             quiet: true,
-            rules: Rules::ALL,
         });
         assert!(rt; asks_for(rt.alloc(), words, wanted), "{words:?}");
     }
@@ -482,7 +511,22 @@ fn names_of_logs(rt: HostRuntime) -> Result<(), Fail> {
 }
 
 /// Command lines that are refused.
-const FAULTS: [&[&str]; 92] = [
+const FAULTS: [&[&str]; 107] = [
+    &["check", "--rules", ""],
+    &["check", "--rules", "Intel"],
+    &["check", "--rules", "intel,"],
+    &["check", "--rules", ",intel"],
+    &["check", "--rules", "intel,amd"],
+    &["check", "--rules", "intel,fault-globals"],
+    &["check", "--rules", "intel,-fault"],
+    &["check", "--rules", "-fault-globals"],
+    &["check", "--rules", "intel, -fault-globals"],
+    &["check", "--rules", "lax", "--rules", "lax"],
+    &["check", "--rules", "lax", "--first"],
+    &["certify", "--rules", "lax", "--bytes"],
+    &["explain", "--rules", "lax", "--trace"],
+    &["outcomes", "--rules", "lax"],
+    &["upgrade", "--rules", "lax"],
     &["merge"],
     &["merge", "--error", "3"],
     &["merge", "--error", "-3", "a.log"],

@@ -33,6 +33,7 @@ $ explain
 > final: no moments prove this access
 > last: never
 > allowed: none
+> rests on: by any moments: nothing that can be left out
 ? 1
 
 == sample_global_leaf_under_other_pcid
@@ -65,6 +66,7 @@ $ explain
 > dropped: translation of level 1 by 4 cpu 0 invlpg 0x5000
 > other moments would: 5 5 5 5
 > allowed: 0x9123 by 5 5 5 5
+> rests on: by any moments: no rule, since others witness the event
 ? 1
 
 == sample_stale_leaf_after_invlpg
@@ -88,6 +90,7 @@ $ explain
 > final: no moments prove this access
 > last: moment 5 by 4 4 4 4; taken by 5 cpu 0 invlpg 0x5000
 > allowed: fault 0x4 by 6 6 6 6
+> rests on: by any moments: nothing that can be left out
 ? 1
 
 == sample_stale_leaf_never_invalidated
@@ -153,5 +156,6 @@ $ explain
 > final: no moments prove this access
 > last: moment 5 by 4 4 4 4; taken by 5 cpu 0 invlpg 0x5000
 > allowed: fault 0x4 by 6 6 6 6
+> rests on: by any moments: nothing that can be left out
 ? 1
 ";

@@ -10,7 +10,7 @@ pub by_record : (command : Command) (s : Streams) (status : ℕ) → reads_recor
 by_record (Check asked) s status reads does = does
 by_record (Certify asked) s status reads does = does
 by_record (Run asked) s status reads does = absurd cc
-by_record RunOf s status reads does = does
+by_record (RunOf rules) s status reads does = does
 by_record (Explain asked) s status reads does = does
 by_record (Show asked) s status reads does = does
 by_record (Outcomes asked) s status reads does = does

@@ -44,7 +44,7 @@ abbrev pub DoesCommand : Command → Streams → ℕ → Type 0
 DoesCommand (Check asked) s status = DoesOfRecord (Check asked) s status
 DoesCommand (Certify asked) s status = DoesOfRecord (Certify asked) s status
 DoesCommand (Run asked) s status = RunsGuest asked.single asked.bytes s status
-DoesCommand RunOf s status = DoesOfRecord RunOf s status
+DoesCommand (RunOf rules) s status = DoesOfRecord (RunOf rules) s status
 DoesCommand (Explain asked) s status = DoesOfRecord (Explain asked) s status
 DoesCommand (Show asked) s status = DoesOfRecord (Show asked) s status
 DoesCommand (Outcomes asked) s status = DoesOfRecord (Outcomes asked) s status
@@ -89,7 +89,7 @@ widening_of (Merge error) = Some error
 widening_of (Check asked) = None
 widening_of (Certify asked) = None
 widening_of (Run asked) = None
-widening_of RunOf = None
+widening_of (RunOf rules) = None
 widening_of (Explain asked) = None
 widening_of (Show asked) = None
 widening_of (Outcomes asked) = None

@@ -28,7 +28,7 @@ abbrev pub writes_bytes : Command → Bool
 writes_bytes (Check asked) = false
 writes_bytes (Certify asked) = asked.bytes
 writes_bytes (Run asked) = asked.bytes
-writes_bytes RunOf = false
+writes_bytes (RunOf rules) = false
 writes_bytes (Explain asked) = false
 writes_bytes (Show asked) = false
 writes_bytes (Outcomes asked) = false

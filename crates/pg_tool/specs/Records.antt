@@ -11,6 +11,8 @@ use Rattle.pg_arguments.specs.declared.request.CertifyOptions.{CertifyOptions}
 use Rattle.pg_arguments.specs.declared.request.CheckOptions.{CheckOptions}
 use Rattle.pg_arguments.specs.declared.request.ExplainOptions.{ExplainOptions}
 use Rattle.pg_arguments.specs.declared.request.ShowOptions.{ShowOptions}
+use Rattle.pg_entry.specs.declared.Rules.{Rules}
+use Rattle.pg_entry.specs.Rules.{all_rules}
 use Rattle.pg_event.specs.declared.selection.Selection.{Selection}
 use Rattle.pg_arguments.specs.declared.request.Telling.{Telling}
 use Rattle.pg_arguments.specs.declared.request.Telling.TheVariants.{First, At, All, Picture}
@@ -70,35 +72,36 @@ CertifiesBy asked true first trace = NamesRecord
 CertifiesBy asked false true trace = CertifiesFirst
 CertifiesBy asked false false true = TracesCertified asked.checkers
 CertifiesBy asked false false false =
-    AnswersRecord questions.Certify (format_of asked.json) asked.checkers
+    AnswersRecord asked.rules questions.Certify (format_of asked.json) asked.checkers
 
 -- its report, or that of what was read up to the first bad event
 abbrev pub ChecksBy : CheckOptions → Bool → Streams → ℕ → Type 0
 ChecksBy asked true = ChecksFirst
 ChecksBy asked false =
-    AnswersRecord (check_question asked.all) (format_of asked.json) asked.checkers
+    AnswersRecord asked.rules (check_question asked.all) (format_of asked.json) asked.checkers
 
 -- the cause of a rejection, or the record's trace
 abbrev pub ExplainsBy : ExplainOptions → Bool → Streams → ℕ → Type 0
 ExplainsBy asked true = TracesExplained
 ExplainsBy asked false =
-    AnswersRecord (telling_question asked.telling) (telling_format asked) 1
+    AnswersRecord asked.rules (telling_question asked.telling) (telling_format asked) 1
 
 -- its events, or their trace
 abbrev pub ShowsBy : ShowOptions → Bool → Streams → ℕ → Type 0
 ShowsBy asked true = TracesShown asked.selection
-ShowsBy asked false = AnswersRecord (questions.Show asked.selection) (format_of asked.json) 1
+ShowsBy asked false =
+    AnswersRecord asked.rules (questions.Show asked.selection) (format_of asked.json) 1
 
 -- what a command does: the form of the answer changes nothing else
 abbrev pub DoesPlain : Command → Streams → ℕ → Type 0
 DoesPlain (Check asked) s status = ChecksBy asked asked.first s status
 DoesPlain (Certify asked) s status = CertifiesBy asked asked.bytes asked.first asked.trace s status
 DoesPlain (Run asked) s status = ⊥
-DoesPlain RunOf s status = ShowsRun s status
+DoesPlain (RunOf rules) s status = ShowsRun rules s status
 DoesPlain (Explain asked) s status = ExplainsBy asked asked.trace s status
 DoesPlain (Show asked) s status = ShowsBy asked asked.trace s status
 DoesPlain (Outcomes asked) s status =
-    AnswersRecord (questions.Outcomes asked.event asked.most) (format_of asked.json) 1 s status
+    AnswersRecord all_rules (questions.Outcomes asked.event asked.most) (format_of asked.json) 1 s status
 DoesPlain Upgrade s status = Upgrades s status
 DoesPlain (Merge error) s status = ⊥
 
@@ -115,13 +118,25 @@ abbrev pub question_of : Command → Option Question
 question_of (Check asked) = in_json asked.json (check_question asked.all)
 question_of (Certify asked) = in_json (is_json asked) questions.Certify
 question_of (Run asked) = None
-question_of RunOf = None
+question_of (RunOf rules) = None
 question_of (Explain asked) = in_json asked.json (telling_question asked.telling)
 question_of (Show asked) = in_json asked.json (questions.Show asked.selection)
 question_of (Outcomes asked) =
     in_json asked.json (questions.Outcomes asked.event asked.most)
 question_of Upgrade = None
 question_of (Merge error) = None
+
+-- the rules that a command holds processors to
+abbrev pub rules_of : Command → Rules
+rules_of (Check asked) = asked.rules
+rules_of (Certify asked) = asked.rules
+rules_of (Run asked) = all_rules
+rules_of (RunOf rules) = rules
+rules_of (Explain asked) = asked.rules
+rules_of (Show asked) = asked.rules
+rules_of (Outcomes asked) = all_rules
+rules_of Upgrade = all_rules
+rules_of (Merge error) = all_rules
 
 -- ---- a record with spans
 
@@ -156,20 +171,21 @@ RefusesSpans output errors status =
 -- what a command does
 abbrev pub DoesSpanned : Command → Streams → ℕ → Type 0
 DoesSpanned (Check asked) s status = RefusesSpans s.output s.errors status
-DoesSpanned (Certify asked) s status = OrdersRecord (asked_of asked) s status
+DoesSpanned (Certify asked) s status = OrdersRecord asked.rules (asked_of asked) s status
 DoesSpanned (Run asked) s status = ⊥
-DoesSpanned RunOf s status = RefusesSpans s.output s.errors status
-DoesSpanned (Explain asked) s status = OrdersRecord (explained_of asked) s status
+DoesSpanned (RunOf rules) s status = RefusesSpans s.output s.errors status
+DoesSpanned (Explain asked) s status = OrdersRecord asked.rules (explained_of asked) s status
 DoesSpanned (Show asked) s status = ShowsSpansBy asked.selection asked.trace s status
 DoesSpanned (Outcomes asked) s status =
-    OrdersRecord (asking.Outcomes asked.event asked.most) s status
+    OrdersRecord all_rules (asking.Outcomes asked.event asked.most) s status
 DoesSpanned Upgrade s status = RefusesSpans s.output s.errors status
 DoesSpanned (Merge error) s status = ⊥
 
 -- the same as JSON, where that is asked for
 abbrev pub DoesUnordered : Option Question → Command → Streams → ℕ → Type 0
 DoesUnordered None command s status = DoesSpanned command s status
-DoesUnordered (Some question) command s status = AnswersSpans question s status
+DoesUnordered (Some question) command s status =
+    AnswersSpans (rules_of command) question s status
 
 -- ---- by the version
 
@@ -207,7 +223,7 @@ abbrev pub reads_record : Command → Bool
 reads_record (Check asked) = true
 reads_record (Certify asked) = true
 reads_record (Run asked) = false
-reads_record RunOf = true
+reads_record (RunOf rules) = true
 reads_record (Explain asked) = true
 reads_record (Show asked) = true
 reads_record (Outcomes asked) = true

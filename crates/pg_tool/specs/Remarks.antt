@@ -21,7 +21,7 @@ abbrev pub writes_json : Command → Bool
 writes_json (Check asked) = asked.json
 writes_json (Certify asked) = asked.json
 writes_json (Run asked) = false
-writes_json RunOf = false
+writes_json (RunOf rules) = false
 writes_json (Explain asked) = asked.json
 writes_json (Show asked) = asked.json
 writes_json (Outcomes asked) = asked.json
@@ -37,7 +37,7 @@ abbrev pub judges_by_moments : Command → Bool
 judges_by_moments (Check asked) = true
 judges_by_moments (Certify asked) = false
 judges_by_moments (Run asked) = false
-judges_by_moments RunOf = true
+judges_by_moments (RunOf rules) = true
 judges_by_moments (Explain asked) = true
 judges_by_moments (Show asked) = false
 judges_by_moments (Outcomes asked) = false

@@ -50,7 +50,7 @@ fn perform<T: AllocGlobal + Threads + Wait + Sync, R: Source, O: Sink, E: Sink, 
         },
         Command::Check(_)
         | Command::Certify(_)
-        | Command::RunOf
+        | Command::RunOf(_)
         | Command::Explain(_)
         | Command::Show(_)
         | Command::Outcomes(_)
@@ -173,7 +173,7 @@ pub(crate) fn widening_of(command: &Command) -> Option<u32>
         Command::Check(_)
         | Command::Certify(_)
         | Command::Run(_)
-        | Command::RunOf
+        | Command::RunOf(_)
         | Command::Explain(_)
         | Command::Show(_)
         | Command::Outcomes(_)

@@ -31,7 +31,7 @@ fn writes_bytes(command: &Command) -> bool
         Command::Run(asked) => asked.bytes,
         Command::Upgrade | Command::Merge { .. } => true,
         Command::Check(_)
-        | Command::RunOf
+        | Command::RunOf(_)
         | Command::Explain(_)
         | Command::Show(_)
         | Command::Outcomes(_) => false,

@@ -117,7 +117,7 @@ fn tells_of_reading(plan: &Plan) -> bool {
         Command::Run(_) => false,
         Command::Check(_)
         | Command::Certify(_)
-        | Command::RunOf
+        | Command::RunOf(_)
         | Command::Explain(_)
         | Command::Show(_)
         | Command::Outcomes(_)

@@ -8,7 +8,8 @@ ghost use Rattle.pg_tool.specs.Records.{CertifiesBy, ChecksBy, ExplainsBy, Shows
 ghost use Rattle.pg_tool.specs.Records.{explained_of, ShowsSpansBy};
 ghost use Rattle.pg_tool.specs.Records.{asked_of, told_of, RefusesSpans, DoesSpanned};
 ghost use Rattle.pg_tool.specs.Records.{DoesOfRecord, reads_record};
-ghost use Rattle.pg_tool.specs.Records.{check_question, telling_question, question_of};
+ghost use Rattle.pg_entry.specs.Rules.{all_rules};
+ghost use Rattle.pg_tool.specs.Records.{check_question, telling_question, question_of, rules_of};
 ghost use Rattle.pg_tool.specs.Records.{format_of, telling_format, in_json, is_json};
 ghost use Rattle.pg_tool.specs.Records.{DoesUnordered, device_line};
 ghost use Rattle.pg_answers.specs.Refusals.{Tells};
@@ -24,6 +25,7 @@ use pg_arguments::{
     Telling,
 };
 use pg_codec::{Sink, Source};
+use pg_entry::Rules;
 use pg_report::AuditError;
 use pg_show_json_answers::{answer_spans_json, tell_json};
 use pg_span_answers::{Asked, certify_spanned, show_spanned, trace_spanned};
@@ -56,6 +58,7 @@ fn certify_by<T: AllocGlobal + Threads + Wait + Sync, R: Source, O: Sink, E: Sin
         answer(
             rt,
             asked.checkers,
+            asked.rules,
             Question::Certify,
             format,
             input,
@@ -93,7 +96,16 @@ fn check_by<T: AllocGlobal + Threads + Wait + Sync, R: Source, O: Sink, E: Sink>
     } else {
         let question = check_question(asked);
         let format = format_of(asked.json);
-        answer(rt, asked.checkers, question, format, input, output, errors)
+        answer(
+            rt,
+            asked.checkers,
+            asked.rules,
+            question,
+            format,
+            input,
+            output,
+            errors,
+        )
     }
 }
 
@@ -143,6 +155,7 @@ fn explain_by<T: AllocGlobal + Threads + Wait + Sync, R: Source, O: Sink, E: Sin
         answer(
             rt,
             Checkers::default(),
+            asked.rules,
             question,
             format,
             input,
@@ -171,6 +184,7 @@ fn show_by<T: AllocGlobal + Threads + Wait + Sync, R: Source, O: Sink, E: Sink>(
         answer(
             rt,
             Checkers::default(),
+            asked.rules,
             question,
             format,
             input,
@@ -196,7 +210,7 @@ fn do_of_plain<T: AllocGlobal + Threads + Wait + Sync, R: Source, O: Sink, E: Si
     match command {
         Command::Check(asked) => check_by(rt, asked, input, output, errors),
         Command::Certify(asked) => certify_by(rt, asked, input, output, errors),
-        Command::RunOf => run_of(alloc, input, output, errors),
+        Command::RunOf(rules) => run_of(alloc, *rules, input, output, errors),
         Command::Explain(asked) => explain_by(rt, asked, input, output, errors),
         Command::Show(asked) => show_by(rt, asked, input, output, errors),
         Command::Outcomes(asked) => {
@@ -205,6 +219,7 @@ fn do_of_plain<T: AllocGlobal + Threads + Wait + Sync, R: Source, O: Sink, E: Si
             answer(
                 rt,
                 Checkers::default(),
+                Rules::ALL,
                 question,
                 format,
                 input,
@@ -243,7 +258,23 @@ fn question_of(command: &Command) -> Option<Question>
         Command::Outcomes(asked) => {
             in_json(asked.json, Question::Outcomes(asked.event, asked.most))
         }
-        Command::Run(_) | Command::RunOf | Command::Upgrade | Command::Merge { .. } => None,
+        Command::Run(_) | Command::RunOf(_) | Command::Upgrade | Command::Merge { .. } => None,
+    }
+}
+
+/// The rules that a command holds processors to.
+fn rules_of(command: &Command) -> Rules
+    ensures { result ≡ rules_of command.now }
+{
+    match command {
+        Command::Check(asked) => asked.rules,
+        Command::Certify(asked) => asked.rules,
+        Command::RunOf(rules) => *rules,
+        Command::Explain(asked) => asked.rules,
+        Command::Show(asked) => asked.rules,
+        Command::Run(_) | Command::Outcomes(_) | Command::Upgrade | Command::Merge { .. } => {
+            Rules::ALL
+        }
     }
 }
 
@@ -270,10 +301,10 @@ fn order_by<R: Source, O: Sink, E: Sink>(
     output: &mut O,
     errors: &mut E,
 ) -> u8
-    ensures { OrdersRecord (asked_of asked.now) (streams R.Source O.Sink E.Sink
+    ensures { OrdersRecord asked.now.rules (asked_of asked.now) (streams R.Source O.Sink E.Sink
         (input.old, output.old, errors.old) (input.new, output.new, errors.new)) result }
 {
-    certify_spanned(alloc, asked_of(asked), input, output, errors)
+    certify_spanned(alloc, asked.rules, asked_of(asked), input, output, errors)
 }
 
 /// What `explain` writes of a record with spans.
@@ -306,10 +337,10 @@ fn explain_order<R: Source, O: Sink, E: Sink>(
     output: &mut O,
     errors: &mut E,
 ) -> u8
-    ensures { OrdersRecord (explained_of asked.now) (streams R.Source O.Sink E.Sink
+    ensures { OrdersRecord asked.now.rules (explained_of asked.now) (streams R.Source O.Sink E.Sink
         (input.old, output.old, errors.old) (input.new, output.new, errors.new)) result }
 {
-    certify_spanned(alloc, explained_of(asked), input, output, errors)
+    certify_spanned(alloc, asked.rules, explained_of(asked), input, output, errors)
 }
 
 /// Writes the events of the record with spans on `input`, or their trace.
@@ -338,12 +369,12 @@ fn outcomes_by<R: Source, O: Sink, E: Sink>(
     output: &mut O,
     errors: &mut E,
 ) -> u8
-    ensures { OrdersRecord (Asked.Outcomes asked.now.event asked.now.most)
+    ensures { OrdersRecord all_rules (Asked.Outcomes asked.now.event asked.now.most)
         (streams R.Source O.Sink E.Sink
         (input.old, output.old, errors.old) (input.new, output.new, errors.new)) result }
 {
     let told = Asked::Outcomes(asked.event, asked.most);
-    certify_spanned(alloc, told, input, output, errors)
+    certify_spanned(alloc, Rules::ALL, told, input, output, errors)
 }
 
 /// Refuses a record with spans by its version, and says which command judges it.
@@ -372,7 +403,7 @@ fn do_of_spanned<R: Source, O: Sink, E: Sink>(
         Command::Explain(asked) => explain_order(alloc, asked, input, output, errors),
         Command::Show(asked) => show_order(alloc, asked, input, output, errors),
         Command::Outcomes(asked) => outcomes_by(alloc, asked, input, output, errors),
-        Command::Check(_) | Command::RunOf | Command::Upgrade => refuse_spans(output, errors),
+        Command::Check(_) | Command::RunOf(_) | Command::Upgrade => refuse_spans(output, errors),
         Command::Run(_) | Command::Merge { .. } => unreachable!(),
     }
 }
@@ -391,7 +422,9 @@ fn do_of_unordered<R: Source, O: Sink, E: Sink>(
 {
     match question_of(command) {
         None => do_of_spanned(alloc, command, input, output, errors),
-        Some(question) => answer_spans_json(alloc, question, input, output, errors),
+        Some(question) => {
+            answer_spans_json(alloc, rules_of(command), question, input, output, errors)
+        }
     }
 }
 

@@ -22,7 +22,7 @@ fn writes_json(command: &Command) -> bool
         Command::Explain(asked) => asked.json,
         Command::Show(asked) => asked.json,
         Command::Outcomes(asked) => asked.json,
-        Command::Run(_) | Command::RunOf | Command::Upgrade | Command::Merge { .. } => false,
+        Command::Run(_) | Command::RunOf(_) | Command::Upgrade | Command::Merge { .. } => false,
     }
 }
 
@@ -39,7 +39,7 @@ pub(crate) fn judges_by_moments(command: &Command) -> bool
     ensures { result ≡ judges_by_moments command.now }
 {
     match command {
-        Command::Check(_) | Command::RunOf | Command::Explain(_) | Command::Upgrade => true,
+        Command::Check(_) | Command::RunOf(_) | Command::Explain(_) | Command::Upgrade => true,
         Command::Certify(_)
         | Command::Run(_)
         | Command::Show(_)
