@@ -13,6 +13,11 @@ def outcomes(program, data, number):
     return done.stdout.decode()
 
 
+def without_rests(text):
+    """A text but for the lines that say what a rejection rests on, for which checks/rules/run is."""
+    return "".join(line for line in text.splitlines(keepends=True) if not line.startswith("rests on: "))
+
+
 def allowed_lines(text):
     """The lines for an event of which `outcomes` writes this text; none where it is no access."""
     # (what gives an outcome stands indented behind it)

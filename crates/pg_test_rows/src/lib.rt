@@ -26,6 +26,8 @@ mod progress_lines;
 #[cfg(test)]
 mod rights;
 #[cfg(test)]
+mod ruled;
+#[cfg(test)]
 mod scripts;
 #[cfg(test)]
 mod several;

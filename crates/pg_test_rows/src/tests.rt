@@ -1,4 +1,4 @@
-use crate::{certificates, first_rejections, invalidations, rights, spliced};
+use crate::{certificates, first_rejections, invalidations, rights, ruled, spliced};
 use pg_test_support::{explanations, first_unanswered, headers, refusals, runs, versions, walks};
 use std::alloc::AllocGlobal;
 use std::process::Abort;
@@ -39,6 +39,11 @@ fn walks_judged(rt: HostRuntime) -> Result<(), Fail> {
 #[test]
 fn invalidations_judged(rt: HostRuntime) -> Result<(), Fail> {
     expect_all(&rt, &[invalidations::ROWS])
+}
+
+#[test]
+fn fewer_rules_held_to(rt: HostRuntime) -> Result<(), Fail> {
+    expect_all(&rt, &[ruled::ROWS])
 }
 
 #[test]
