@@ -73,11 +73,7 @@ fn write_replayed<O: Sink>(
 
 /// Writes the report of a record, with the rules that its processors are held to where these are
 /// not all.
-fn write_no<O: Sink>(
-    alloc: Global,
-    history: &History,
-    output: &mut O,
-) -> Result<(), AuditError>
+fn write_no<O: Sink>(alloc: Global, history: &History, output: &mut O) -> Result<(), AuditError>
     ensures text { WritesText (filled O.Sink output.old output.new) (no_text history.now) result }
     ensures device { TellsDevice (filled O.Sink output.old output.new) result }
 {

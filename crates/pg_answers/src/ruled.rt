@@ -38,20 +38,31 @@ pub fn rules_value(alloc: Global, rules: Rules) -> Result<String, AllocError>
         return String::from_str(alloc, "lax");
     }
     let mut text = String::from_str(alloc, "intel")?;
-    push_left(&mut text, rules, Rules::FAULT_TRANSLATIONS, FAULT_TRANSLATIONS)?;
+    push_left(
+        &mut text,
+        rules,
+        Rules::FAULT_TRANSLATIONS,
+        FAULT_TRANSLATIONS,
+    )?;
     push_left(&mut text, rules, Rules::FAULT_GLOBALS, FAULT_GLOBALS)?;
     push_left(&mut text, rules, Rules::FAULT_STRUCTURES, FAULT_STRUCTURES)?;
-    push_left(&mut text, rules, Rules::INVLPG_STRUCTURES, INVLPG_STRUCTURES)?;
-    push_left(&mut text, rules, Rules::INVPCID_STRUCTURES, INVPCID_STRUCTURES)?;
+    push_left(
+        &mut text,
+        rules,
+        Rules::INVLPG_STRUCTURES,
+        INVLPG_STRUCTURES,
+    )?;
+    push_left(
+        &mut text,
+        rules,
+        Rules::INVPCID_STRUCTURES,
+        INVPCID_STRUCTURES,
+    )?;
     Ok(text)
 }
 
 /// Appends the line of the rules that processors are held to, where they are not all.
-pub fn push_rules_line(
-    alloc: Global,
-    text: &mut String,
-    rules: Rules,
-) -> Result<(), AllocError>
+pub fn push_rules_line(alloc: Global, text: &mut String, rules: Rules) -> Result<(), AllocError>
     ensures { OnOk result (string_bytes text.new ≡ string_bytes text.old ++ rules_line rules) }
 {
     if rules == Rules::ALL {

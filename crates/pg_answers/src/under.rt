@@ -12,21 +12,17 @@ use crate::explanations::{explained, explained_at};
 use crate::outcomes::outcomes_asked;
 use crate::question::Question;
 use crate::summaries::{all_explained, summed};
+use pg_arguments::Checkers;
 use pg_check::History;
 use pg_codec::Source;
 use pg_entry::Rules;
-use pg_arguments::Checkers;
 use pg_report::{AuditError, read_record, report_of};
 use std::alloc::{AllocError, AllocGlobal, Global};
 use std::sync::Wait;
 use std::thread::Threads;
 
 /// A history as it was read, or judged anew where its processors are held to other rules than all.
-pub(crate) fn ruled(
-    alloc: Global,
-    rules: Rules,
-    history: History,
-) -> Result<History, AllocError>
+pub(crate) fn ruled(alloc: Global, rules: Rules, history: History) -> Result<History, AllocError>
     ensures { IfOk result (λ held. held ≡ ruled rules history) }
 {
     if rules == Rules::ALL {

@@ -1,6 +1,6 @@
 // SPDX-License-Identifier: MIT OR Apache-2.0
-//! Every outcome that an access may have after the events before it, and which rules it rests on that
-//! an event may not come.
+//! Every outcome that an access may have after the events before it, and which rules it rests on
+//! that an event may not come.
 #![tactic(auto)]
 
 mod allowed;

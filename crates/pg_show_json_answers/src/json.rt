@@ -89,11 +89,7 @@ fn put_causes(
 }
 
 /// The line of a no of `certify`, and of its cause.
-fn rejection_line(
-    alloc: Global,
-    rules: Rules,
-    rejection: &Rejection,
-) -> Result<String, AllocError>
+fn rejection_line(alloc: Global, rules: Rules, rejection: &Rejection) -> Result<String, AllocError>
     ensures { IfOk result (λ t. string_bytes t ≡ json_line (rejection_json rules rejection.now)) }
 {
     let Rejection {
@@ -115,8 +111,8 @@ fn rejection_line(
     line_of(alloc, fields)
 }
 
-/// An answer as JSON, where processors are held to these rules: an object in one line, and of events
-/// one of each. Fails only when out of memory.
+/// An answer as JSON, where processors are held to these rules: an object in one line, and of
+/// events one of each. Fails only when out of memory.
 pub fn answer_json(alloc: Global, rules: Rules, answer: &Answer) -> Result<String, AllocError>
     ensures { IfOk result (λ t. string_bytes t ≡ answer_json rules answer.now) }
 {

@@ -50,11 +50,26 @@ fn alone_names(alloc: Global, rests: &Rests) -> Result<Vec<Value>, AllocError>
     ensures { IfOk result (λ vs. map view vs.items ≡ map data_of (alone_names rests.now)) }
 {
     let mut names = Vec::new(alloc);
-    push_name(alloc, &mut names, rests.fault_translations, FAULT_TRANSLATIONS)?;
+    push_name(
+        alloc,
+        &mut names,
+        rests.fault_translations,
+        FAULT_TRANSLATIONS,
+    )?;
     push_name(alloc, &mut names, rests.fault_globals, FAULT_GLOBALS)?;
     push_name(alloc, &mut names, rests.fault_structures, FAULT_STRUCTURES)?;
-    push_name(alloc, &mut names, rests.invlpg_structures, INVLPG_STRUCTURES)?;
-    push_name(alloc, &mut names, rests.invpcid_structures, INVPCID_STRUCTURES)?;
+    push_name(
+        alloc,
+        &mut names,
+        rests.invlpg_structures,
+        INVLPG_STRUCTURES,
+    )?;
+    push_name(
+        alloc,
+        &mut names,
+        rests.invpcid_structures,
+        INVPCID_STRUCTURES,
+    )?;
     Ok(names)
 }
 

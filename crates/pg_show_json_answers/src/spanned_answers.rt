@@ -142,10 +142,11 @@ fn outcomes_json<R: Source, O: Sink, E: Sink>(
 }
 
 /// Writes the answer of a question of the record of version 3 or 4 on `input` as JSON, or an object
-/// to `errors` that says why there is none, where processors are held to these rules: whether the events have an order in which some run of
-/// the machine has them, the outcomes of an event in it, or the events with their spans. What is
-/// judged in one order is refused by the version. The record is held in memory whole, and nothing
-/// is written before it is ready. It gives the exit status: 0 yes, or shown, 1 no, 2 refused, or an
+/// to `errors` that says why there is none, where processors are held to these rules: whether the
+/// events have an order in which some run of the machine has them, the outcomes of an event in it,
+/// which are asked under all rules, or the events with their spans. What is judged in one order is
+/// refused by the version. The record is held in memory whole, and nothing is written before it is
+/// ready. It gives the exit status: 0 yes, or shown, 1 no, 2 refused, or an
 /// event that is no access and no assist, 3 memory, 4 undecided.
 pub fn answer_spans_json<R: Source, O: Sink, E: Sink>(
     alloc: Global,

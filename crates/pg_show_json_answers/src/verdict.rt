@@ -20,8 +20,8 @@ use pg_span_verdict::Verdict;
 use serde_json::{Value, put};
 use std::alloc::{AllocError, Global};
 
-/// The cause of a rejection, and whether it is one since all orders were tried, where processors are
-/// held to these rules.
+/// The cause of a rejection, and whether it is one since all orders were tried, where processors
+/// are held to these rules.
 fn why_fields(
     alloc: Global,
     rules: Rules,

@@ -4,7 +4,8 @@ ghost use Rattle.std.specs.Prelude.{◌≡◌, ◌++◌, IfOk, OnOk, codes, deci
 ghost use Rattle.std.specs.List.{flat_map};
 ghost use Rattle.pg_span_answers.specs.Texts.{report_text, order_text, segments_of};
 ghost use Rattle.pg_span_answers.specs.Texts.{counts_of, head_text, cause_of, none_of_all};
-ghost use Rattle.pg_span_answers.specs.Texts.{drawn_text, edge_line, never_in, rests_of, trace_text};
+ghost use Rattle.pg_span_answers.specs.Texts.{drawn_text, edge_line, never_in, rests_of};
+ghost use Rattle.pg_span_answers.specs.Texts.{trace_text};
 
 use pg_answers::push_rules_line;
 use pg_show_trace::spanned_verdict_trace;
@@ -103,8 +104,8 @@ fn push_rests(text: &mut String, verdict: &Verdict) -> Result<(), AllocError>
     }
 }
 
-/// The report of a verdict on a run, and after a no its cause; and the rules that its processors are
-/// held to, where these are not all.
+/// The report of a verdict on a run, and after a no its cause; and the rules that its processors
+/// are held to, where these are not all.
 pub(crate) fn report_text(
     alloc: Global,
     run: &SpannedRun,

@@ -124,7 +124,10 @@ fn plans_of_rules(rt: HostRuntime) {
             rules: Rules(flags),
         };
         let wanted = Some(quiet(Command::Check(asked)));
-        assert!(rt; asks_for(rt.alloc(), &["check", "--rules", value], wanted), "{value}");
+        assert!(rt;
+            asks_for(rt.alloc(), &["check", "--rules", value], wanted),
+            "{value}"
+        );
     }
 }
 
@@ -368,7 +371,11 @@ fn plans_of_outcomes(rt: HostRuntime) {
 const PLAIN: [(&[&str], Command, bool); 5] = [
     (&["run-of"], Command::RunOf(Rules::ALL), false),
     (&["run-of", "--progress"], Command::RunOf(Rules::ALL), true),
-    (&["run-of", "--rules", "lax"], Command::RunOf(Rules::LAX), false),
+    (
+        &["run-of", "--rules", "lax"],
+        Command::RunOf(Rules::LAX),
+        false,
+    ),
     (&["upgrade"], Command::Upgrade, false),
     (&["upgrade", "--progress"], Command::Upgrade, true),
 ];

@@ -101,7 +101,8 @@ DoesPlain (RunOf rules) s status = ShowsRun rules s status
 DoesPlain (Explain asked) s status = ExplainsBy asked asked.trace s status
 DoesPlain (Show asked) s status = ShowsBy asked asked.trace s status
 DoesPlain (Outcomes asked) s status =
-    AnswersRecord all_rules (questions.Outcomes asked.event asked.most) (format_of asked.json) 1 s status
+    AnswersRecord all_rules (questions.Outcomes asked.event asked.most) (format_of asked.json) 1 s
+    status
 DoesPlain Upgrade s status = Upgrades s status
 DoesPlain (Merge error) s status = ⊥
 

@@ -340,7 +340,14 @@ fn explain_order<R: Source, O: Sink, E: Sink>(
     ensures { OrdersRecord asked.now.rules (explained_of asked.now) (streams R.Source O.Sink E.Sink
         (input.old, output.old, errors.old) (input.new, output.new, errors.new)) result }
 {
-    certify_spanned(alloc, asked.rules, explained_of(asked), input, output, errors)
+    certify_spanned(
+        alloc,
+        asked.rules,
+        explained_of(asked),
+        input,
+        output,
+        errors,
+    )
 }
 
 /// Writes the events of the record with spans on `input`, or their trace.
