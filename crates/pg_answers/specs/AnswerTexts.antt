@@ -1,7 +1,8 @@
 -- Answers as text.
-use Rattle.std.specs.Prelude.{ℕ, Bool, true, false, if◌then◌else◌, List, [], ◌∷◌, ◌++◌, Some}
-use Rattle.std.specs.Prelude.{codes, decimal}
+use Rattle.std.specs.Prelude.{ℕ, Bool, true, false, not, ◌||◌, ◌==◌, if◌then◌else◌, codes, decimal}
+use Rattle.std.specs.Prelude.{List, [], ◌∷◌, ◌++◌, Some}
 use Rattle.pg_entry.specs.declared.Rules.{Rules}
+use Rattle.pg_entry.specs.Rules.{all_rules}
 use Rattle.pg_event.specs.declared.event.Event.{Event}
 use Rattle.pg_explain.specs.declared.explainer.Explanation.{Explanation}
 use Rattle.pg_explain.specs.declared.tallier.Tally.{Tally}
@@ -82,4 +83,6 @@ is_report (Events r selection) = false
 is_report (Outcomes x) = false
 
 abbrev pub ruled_text : Rules → Answer → List ℕ
-ruled_text rules x = if is_report x then answer_text x ++ rules_line rules else answer_text x
+ruled_text rules x =
+    if rules.0 == all_rules.0 || not (is_report x) then answer_text x
+    else answer_text x ++ rules_line rules

@@ -174,9 +174,10 @@ pub fn is_report(answer: &Answer) -> bool
 pub fn ruled_text(alloc: Global, rules: Rules, answer: &Answer) -> Result<String, AllocError>
     ensures { IfOk result (λ t. string_bytes t ≡ ruled_text rules answer.now) }
 {
-    let mut text = answer_text(alloc, answer)?;
-    if is_report(answer) {
-        push_rules_line(alloc, &mut text, rules)?;
+    if rules == Rules::ALL || !is_report(answer) {
+        return answer_text(alloc, answer);
     }
+    let mut text = answer_text(alloc, answer)?;
+    push_rules_line(alloc, &mut text, rules)?;
     Ok(text)
 }

@@ -1,9 +1,9 @@
 //! The rejection of an event, asked again under fewer rules.
 
-ghost use Rattle.std.specs.Prelude.{◌≡◌, ◌<◌, ◌≤◌, ℕ, List, length, true, None};
-ghost use Rattle.std.specs.Prelude.{IfOk, IfSome, slice_get};
+ghost use Rattle.std.specs.Prelude.{◌≡◌, ◌<◌, ◌≤◌, length, true, None, IfOk, IfSome, slice_get};
 ghost use Rattle.pg_event.specs.Form.{broken_rule};
-ghost use Rattle.pg_search.specs.Law.{AreWitness, names_moments};
+ghost use Rattle.pg_search.specs.Law.{CanBeWitnessed, names_moments};
+ghost use Rattle.pg_certify.specs.Certified.{IsUnwitnessed};
 ghost use Rattle.pg_outcomes.specs.Resting.{IsWitnessedUnder, IsRestOn, RestsOn, RestsOnAt};
 
 use pg_check::History;
@@ -71,8 +71,7 @@ fn rests_alone(
     requires within { number ≤ length kept.now.events }
     requires well { broken_rule kept.now.head event.now ≡ None }
     requires names { names_moments event.now ≡ true }
-    requires none { (ws : List ℕ) →
-        AreWitness kept.now.head kept.now.events number event.now ws → ⊥ }
+    requires none { IsUnwitnessed kept.now.head kept.now.events number event.now }
     ensures { IfOk result (IsRestOn kept.now.head kept.now.events number event.now rule.0) }
 {
     let rules = kept.header().cfg.rules;
@@ -99,8 +98,7 @@ pub fn rests_on(
     requires within { number ≤ length kept.now.events }
     requires well { broken_rule kept.now.head event.now ≡ None }
     requires names { names_moments event.now ≡ true }
-    requires none { (ws : List ℕ) →
-        AreWitness kept.now.head kept.now.events number event.now ws → ⊥ }
+    requires none { IsUnwitnessed kept.now.head kept.now.events number event.now }
     ensures { IfOk result (RestsOn kept.now.head kept.now.events number event.now) }
 {
     let together = is_witnessed_under(alloc, kept, number, event, Rules::LAX)?;
@@ -129,8 +127,7 @@ pub fn rests_on(
 pub fn rests_in(alloc: Global, history: &History, number: u64) -> Result<Rests, AllocError>
     requires within { number < length history.now.events }
     requires names { IfSome (slice_get history.now.events number) (λ e. names_moments e ≡ true) }
-    requires none { (ws : List ℕ) → IfSome (slice_get history.now.events number)
-        (λ e. AreWitness history.now.head history.now.events number e ws → ⊥) }
+    requires none { CanBeWitnessed history.now.head history.now.events number → ⊥ }
     ensures { IfOk result (RestsOnAt history.now.head history.now.events number) }
 {
     witnessed_among_kept();

@@ -7,4 +7,4 @@ use Rattle.pg_tool.proofs.records.explain_order.Goals as goal
 pub returns : goal.returns
 returns g c =
     let s = streams g.R.Source g.O.Sink g.E.Sink (c.args.input.now, c.args.output.now, c.args.errors.now) (c.certify_spanned.new.input, c.certify_spanned.new.output, c.certify_spanned.new.errors) in
-    subst (λ (a : Asked). OrdersRecord a s c.certify_spanned.result) c.explained_of.ensures c.certify_spanned.ensures
+    subst (λ (a : Asked). OrdersRecord c.args.asked.now.rules a s c.certify_spanned.result) c.explained_of.ensures c.certify_spanned.ensures

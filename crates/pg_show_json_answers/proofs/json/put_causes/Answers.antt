@@ -6,14 +6,14 @@ use Rattle.pg_explain.specs.declared.explainer.Explanation.{Explanation}
 use Rattle.pg_show_json.proofs.Lists.{fused}
 use Rattle.pg_show_json.specs.Tree.{Json, data_of, list, elements}
 use Rattle.pg_show_json.specs.Causes.{explanation_json}
-use Rattle.pg_show_json_answers.proofs.json.causes_fields.Goals as goal
+use Rattle.pg_show_json_answers.proofs.json.put_causes.Goals as goal
 
 pub returns : goal.returns
-returns c =
+returns c = λ others was.
     let events : List Event = c.args.events.now in
     let xs : List Explanation = c.args.explanations.now in
     let causes : Json = list (elements (map (explanation_json events) xs)) in
     let listed = c.list_of.ensures (map (explanation_json events) xs) (c.in_ok-causes.ensures ∙ sym (fused (explanation_json events) xs)) in
-    c.in_ok-put.ensures.ok
-    ∙ ap (λ (d : Data). put (codes "causes") d (members_view c.in_ok-fields.fields.entries)) listed
-    ∙ ap (λ (ms : Members). put (codes "causes") (data_of causes) ms) c.in_ok-fields.ensures
+    c.put.ensures.ok
+    ∙ ap (λ (d : Data). put (codes "causes") d (members_view c.in_ok-put_summary.new.fields.entries)) listed
+    ∙ ap (λ (ms : Members). put (codes "causes") (data_of causes) ms) (c.in_ok-put_summary.ensures others was)
