@@ -56,13 +56,13 @@ pub use refusals::{
     tell_memory, tell_spans, tell_text,
 };
 pub use replayer::run_of;
-pub use ruled::{is_alone, push_rules_line, rules_value};
+pub use ruled::{push_rules_line, rules_value};
 pub use runs::run_text;
 pub use shown::Shown;
 pub use statuses::{
     MEMORY, NO, REFUSED, UNOPENED, USAGE, YES, error_status, status_of, verdict_status,
 };
-pub use text::{answer_text, is_report, ruled_text};
+pub use text::{answer_text, ruled_text};
 pub use under::answer_under;
 pub use unnamed::is_unnamed;
 pub use upgrader::upgrade;

@@ -101,7 +101,7 @@ fn push_alone(text: &mut String, before: &str, rests: bool, name: &str) -> Resul
 }
 
 /// Whether the rejection rests on some rule alone.
-pub fn is_alone(rests: &Rests) -> bool
+fn is_alone(rests: &Rests) -> bool
     ensures { result ≡ is_alone rests.now }
 {
     rests.fault_translations

@@ -156,7 +156,7 @@ pub fn answer_text(alloc: Global, answer: &Answer) -> Result<String, AllocError>
 }
 
 /// Whether an answer is a report.
-pub fn is_report(answer: &Answer) -> bool
+fn is_report(answer: &Answer) -> bool
     ensures { result ≡ is_report answer.now }
 {
     match answer {

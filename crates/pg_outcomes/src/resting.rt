@@ -112,13 +112,12 @@ pub fn rests_on(
             together,
         });
     }
-    let alone = |rule| rests_alone(alloc, kept, number, event, rule);
     Ok(Rests {
-        fault_translations: alone(Rules::FAULT_TRANSLATIONS)?,
-        fault_globals: alone(Rules::FAULT_GLOBALS)?,
-        fault_structures: alone(Rules::FAULT_STRUCTURES)?,
-        invlpg_structures: alone(Rules::INVLPG_STRUCTURES)?,
-        invpcid_structures: alone(Rules::INVPCID_STRUCTURES)?,
+        fault_translations: rests_alone(alloc, kept, number, event, Rules::FAULT_TRANSLATIONS)?,
+        fault_globals: rests_alone(alloc, kept, number, event, Rules::FAULT_GLOBALS)?,
+        fault_structures: rests_alone(alloc, kept, number, event, Rules::FAULT_STRUCTURES)?,
+        invlpg_structures: rests_alone(alloc, kept, number, event, Rules::INVLPG_STRUCTURES)?,
+        invpcid_structures: rests_alone(alloc, kept, number, event, Rules::INVPCID_STRUCTURES)?,
         together,
     })
 }
