@@ -4,3 +4,4 @@ mod Whole
 mod Steps
 pub mod Meaning
 pub mod One
+pub mod Resting

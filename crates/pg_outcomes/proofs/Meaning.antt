@@ -29,11 +29,11 @@ got_front [] e k lt = absurd (omega (arith, lt))
 got_front (x ∷ xs) e zero lt = refl
 got_front (x ∷ xs) e (suc k) lt = got_front xs e k (omega (arith, lt))
 
-got_last : (xs : List Event) (e : Event) → slice_get (xs ++ e ∷ []) (length xs) ≡ Some e
+pub got_last : (xs : List Event) (e : Event) → slice_get (xs ++ e ∷ []) (length xs) ≡ Some e
 got_last [] e = refl
 got_last (x ∷ xs) e = got_last xs e
 
-take_front : (xs : List Event) (e : Event) (k : ℕ) → k ≤ length xs → take k (xs ++ e ∷ []) ≡ take k xs
+pub take_front : (xs : List Event) (e : Event) (k : ℕ) → k ≤ length xs → take k (xs ++ e ∷ []) ≡ take k xs
 take_front [] e zero le = refl
 take_front [] e (suc k) le = absurd (omega (arith, le))
 take_front (x ∷ xs) e zero le = refl
@@ -101,7 +101,7 @@ runs_below exact denied head xs n d well few low h =
 some_event : (x y : Event) → Some x ≡ Some y → x ≡ y
 some_event x y h = cc
 
-same_witness : (head : Head) (xs ys : List Event) (i : ℕ) (e : Event) (ws : List ℕ) → take i xs ≡ take i ys → AreWitness head xs i e ws → AreWitness head ys i e ws
+pub same_witness : (head : Head) (xs ys : List Event) (i : ℕ) (e : Event) (ws : List ℕ) → take i xs ≡ take i ys → AreWitness head xs i e ws → AreWitness head ys i e ws
 same_witness head xs ys i e ws same h =
     record { some = h.some; few = h.few; good = sym (same_judged head xs ys i (with_moments ws e) same) ∙ h.good }
 
