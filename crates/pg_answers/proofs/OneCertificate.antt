@@ -1,5 +1,5 @@
 -- Whatever certifies a record comes to one answer, and to one text.
-use Rattle.std.proofs.Common.{◌≡◌, ℕ, ◌+◌, ◌<◌, List, ◌++◌, length, take, Option, Some, None, Ok, Err, refl, ap, sym, ◌∙◌, subst, inl, inr, arith}
+use Rattle.std.proofs.Common.{◌≡◌, ℕ, ◌+◌, ◌<◌, List, ◌++◌, length, take, Option, Some, None, Ok, Err, refl, ap, sym, ◌∙◌, subst, inl, inr, arith, codes}
 use Rattle.std.specs.Prelude.{Result, slice_get}
 use Rattle.std.specs.List.{take-map}
 use Rattle.std.proofs.lemmas.Bool.{cases_lt}
@@ -27,6 +27,10 @@ use Rattle.pg_answers.specs.AllowedTexts.{most_allowed, some_lines, rest_line, a
 use Rattle.pg_answers.specs.AnswerTexts.{answer_text, denied_report, rejection_text}
 use Rattle.pg_answers.specs.Outcomes.{AreAllowed}
 use Rattle.pg_answers.specs.Certificates.{IsCertificateText, IsTheCertificate}
+use Rattle.pg_outcomes.specs.declared.resting.Rests.{Rests}
+use Rattle.pg_outcomes.specs.Resting.{RestsOn}
+use Rattle.pg_outcomes.proofs.Resting.{one_rests}
+use Rattle.pg_answers.specs.Ruled.{resting_lines}
 use Rattle.pg_answers.specs.Texts.{GivesText}
 use Rattle.pg_answers.proofs.OneDenial.{one_denial}
 
@@ -53,10 +57,10 @@ one_event head events n m h k =
 
 -- one number, and one text
 -- the text of a rejection, by the record
-told_text : (r : Recorded) (n : ℕ) (x : Rejected) → TellsDenial r n x → rejection_text x ≡ denied_report n (length r.events) (segment_count r) ++ denial_text r.events x.denial ++ allowed_lines_of x.allowed
+told_text : (r : Recorded) (n : ℕ) (x : Rejected) → TellsDenial r n x → rejection_text x ≡ denied_report n (length r.events) (segment_count r) ++ denial_text r.events x.denial ++ allowed_lines_of x.allowed ++ resting_lines (codes "") x.rests
 told_text r n x h =
     let event : Some x.event ≡ slice_get r.events x.denial.number = sym (ap (slice_get r.events) h.number ∙ h.event) in
-    let more : List ℕ = allowed_lines_of x.allowed in
+    let more : List ℕ = allowed_lines_of x.allowed ++ resting_lines (codes "") x.rests in
     ap (λ (o : Option Event). denied_report x.denial.number x.events x.segments ++ denial_text_by o x.takers x.denial ++ more) event
     ∙ ap (λ (by : Takers). denied_report x.denial.number x.events x.segments ++ denial_text_by (slice_get r.events x.denial.number) by x.denial ++ more) h.takers
     ∙ ap (λ (i : ℕ). denied_report i x.events x.segments ++ denial_text r.events x.denial ++ more) h.number
@@ -84,8 +88,13 @@ one_told r n x y denied h k =
     let other = told_text r n y k in
     let event : y.event ≡ x.event = some_same y.event x.event (sym k.event ∙ h.event) in
     let allowed = one_allowed r n x.event x.allowed y.allowed h.allowed (subst (λ e. AreAllowed r n e y.allowed) event k.allowed) in
-    let report : List ℕ = denied_report n (length r.events) (segment_count r) in
-    (number, text ∙ ap (λ d. report ++ d ++ allowed_lines_of x.allowed) one ∙ ap (λ more. report ++ denial_text r.events y.denial ++ more) allowed ∙ sym other)
+    let rests = one_rests r.head r.events n x.event x.rests y.rests h.rests (subst (λ e. RestsOn r.head r.events n e y.rests) event k.rests) in
+    let report : List ℕ = denied_report n (length r.events) (segment_count r) in (
+      number,
+      text ∙ ap (λ d. report ++ d ++ allowed_lines_of x.allowed ++ resting_lines (codes "") x.rests) one
+          ∙ ap (λ more. report ++ denial_text r.events y.denial ++ more ++ resting_lines (codes "") x.rests) allowed
+          ∙ ap (λ (z : Rests). report ++ denial_text r.events y.denial ++ allowed_lines_of y.allowed ++ resting_lines (codes "") z) rests ∙ sym other,
+    )
 
 one_rejection : (r : Recorded) (x y : Rejected) → IsRejection r x → IsRejection r y → (x.denial.number ≡ y.denial.number) × (rejection_text x ≡ rejection_text y)
 one_rejection r x y h k =
@@ -100,17 +109,17 @@ one_certificate r (Rejection x) (Rejection y) h k =
     let one = one_rejection r x y h k in
     (ap Some one.0, one.1)
 one_certificate r (Report a) (Summary b s) h k = absurd k
-one_certificate r (Report a) (Cause b q e u) h k = absurd k
+one_certificate r (Report a) (Cause b q e u v) h k = absurd k
 one_certificate r (Report a) (Causes b q es s) h k = absurd k
 one_certificate r (Report a) (Events q f) h k = absurd k
 one_certificate r (Report a) (Outcomes q) h k = absurd k
 one_certificate r (Rejection x) (Summary b s) h k = absurd k
-one_certificate r (Rejection x) (Cause b q e u) h k = absurd k
+one_certificate r (Rejection x) (Cause b q e u v) h k = absurd k
 one_certificate r (Rejection x) (Causes b q es s) h k = absurd k
 one_certificate r (Rejection x) (Events q f) h k = absurd k
 one_certificate r (Rejection x) (Outcomes q) h k = absurd k
 one_certificate r (Summary a t) y h k = absurd h
-one_certificate r (Cause a p d u) y h k = absurd h
+one_certificate r (Cause a p d u v) y h k = absurd h
 one_certificate r (Causes a p ds t) y h k = absurd h
 one_certificate r (Events p g) y h k = absurd h
 one_certificate r (Outcomes p) y h k = absurd h

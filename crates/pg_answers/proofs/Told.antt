@@ -16,9 +16,9 @@ use Rattle.pg_check.specs.Kept.{AreWellFormed}
 use Rattle.pg_search.specs.declared.last.Last.{Last}
 use Rattle.pg_search.specs.Last.{NoneWitness, IsLastOf, IsLast}
 use Rattle.pg_search.specs.Law.{names_moments, AreWitness}
-use Rattle.pg_search.specs.Changes.{TakenByAChange, DroppedByAChange}
+use Rattle.pg_search.specs.Changes.{TakenByAChange, DroppedByAChange, WitnessedAmongKept}
 use Rattle.pg_search.specs.ReachableTables.{first_or}
-use Rattle.pg_certify.specs.Certified.{IsDenied}
+use Rattle.pg_certify.specs.Certified.{IsDenied, IsUnwitnessed}
 use Rattle.pg_certify.specs.Segments.{end_of}
 use Rattle.pg_certify.specs.Accounts.{Account, IsAccount}
 use Rattle.pg_explain.specs.declared.denial.Denial.{Denial}
@@ -30,6 +30,8 @@ use Rattle.std.specs.declared.vec.Vec.{Vec}
 use Rattle.pg_outcomes.specs.declared.allowed.Allowed.{Allowed}
 use Rattle.pg_outcomes.specs.Allowing.{AreOutcomes}
 use Rattle.pg_outcomes.specs.Law.{OutcomesAmongKept}
+use Rattle.pg_outcomes.specs.declared.resting.Rests.{Rests}
+use Rattle.pg_outcomes.specs.Resting.{RestsOn, RestsAmongKept}
 use Rattle.pg_answers.specs.Accounts.{IsChange, IsDeniedAccount}
 use Rattle.pg_answers.specs.Outcomes.{AreAllowed}
 
@@ -137,6 +139,16 @@ module _ (a : Account) (r : Recorded) (n : ℕ) (e : Event) (h : IsDeniedAccount
       let kept : AreOutcomes (record { head = r.head; events = a.findings.kept.events }) n e xs.items =
       subst (λ (x : Head). AreOutcomes (record { head = x; events = a.findings.kept.events }) n e xs.items) h.known.certifying.settings l.1 in
       (l.0, law r.head a.findings.kept.events r.events n e xs.items h.known.certifying.kept reach kept)
+
+  -- no moments witness it by what is kept, and what its rejection rests on by that it rests on by all events
+  pub unwitnessed : WitnessedAmongKept → IsUnwitnessed a.findings.kept.head a.findings.kept.events n e
+  unwitnessed law ws w =
+      let here : AreWitness r.head a.findings.kept.events n e ws = subst (λ (x : Head). AreWitness x a.findings.kept.events n e ws) h.known.certifying.settings w in
+      denied.denied (ws, (e, h.there, law.all r.head a.findings.kept.events r.events n e ws h.known.certifying.kept reach here))
+
+  pub rests_is : RestsAmongKept → (x : Rests) → RestsOn a.findings.kept.head a.findings.kept.events n e x → RestsOn r.head r.events n e x
+  rests_is law x l =
+      law r.head a.findings.kept.events r.events n e x h.known.certifying.kept reach (subst (λ (y : Head). RestsOn y a.findings.kept.events n e x) h.known.certifying.settings l)
 
   module _ (law : DenialsAmongKept) (taken : TakenByAChange) (drops : DroppedByAChange) (denial : Denial) (of : IsDenialFor a.findings.kept.head a.findings.kept.events n e denial) where
     pub denial_is : IsDenialOf r.head r.events n denial

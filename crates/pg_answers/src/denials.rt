@@ -18,7 +18,7 @@ use pg_check::History;
 use pg_event::Event;
 use pg_explain::{Takers, denials_among_kept, deny, deny_event, takers_in};
 use pg_outcomes::{outcomes_among_kept, rests_among_kept, rests_in, rests_on};
-use pg_search::{Last, Seen, dropped_by_a_change, taken_by_a_change};
+use pg_search::{Last, Seen, dropped_by_a_change, taken_by_a_change, witnessed_among_kept};
 use std::alloc::{AllocError, Global};
 
 /// The cause of the rejection of this event, of a record that was read whole.
@@ -87,15 +87,17 @@ pub(crate) fn denial_by(
     taken_by_a_change();
     dropped_by_a_change();
     rests_among_kept();
+    witnessed_among_kept();
     let certifying = account.certifying();
-    let seen = Seen::among(certifying.kept());
+    let kept = certifying.kept();
+    let seen = Seen::among(kept);
     let denial = deny_event(alloc, &seen, number as u32, event)?;
     let takers = Takers {
         taken: taken_of(account, denial.last),
         dropped: dropped_of(account, denial.dropped),
     };
     let allowed = allowed_at(alloc, &seen, number as u32, event)?;
-    let rests = rests_on(alloc, certifying.kept(), number as u32, event)?;
+    let rests = rests_on(alloc, kept, number as u32, event)?;
     Ok(Rejection {
         events: certifying.len(),
         segments: certifying.segments(),

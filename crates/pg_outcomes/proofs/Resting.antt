@@ -1,6 +1,7 @@
 -- What the rejection of an event rests on: among what is kept of the events before, and under fewer rules.
-use Rattle.std.proofs.Common.{◌≡◌, ℕ, ◌≤◌, Bool, List, [], ◌∷◌, ◌++◌, length, Some, None, ap, sym, ◌∙◌, subst, arith, take, take_all}
+use Rattle.std.proofs.Common.{◌≡◌, ◌↔◌, ℕ, ◌≤◌, Bool, true, false, refl, List, [], ◌∷◌, ◌++◌, length, Some, None, ap, sym, ◌∙◌, subst, arith, take, take_all}
 use Rattle.std.specs.Prelude.{slice_get, option_and_then}
+use Rattle.std.proofs.lemmas.Bool.{false≢true}
 use Rattle.std.proofs.lemmas.List.{length-take}
 use Rattle.pg_entry.specs.declared.Rules.{Rules}
 use Rattle.pg_entry.specs.Rules.{AreAmong, without, lax_rules, fault_translations, fault_globals, fault_structures, invlpg_structures, invpcid_structures}
@@ -10,7 +11,8 @@ use Rattle.pg_event.specs.Laws.{WitnessedUnderFewerRules}
 use Rattle.pg_event.specs.Witness.{failing_event, Witnessed}
 use Rattle.pg_search.specs.Changes.{WitnessedAmongKept}
 use Rattle.pg_search.specs.Law.{AreWitness, with_moments}
-use Rattle.pg_outcomes.specs.Resting.{IsWitnessedUnder, RestsAmongKept}
+use Rattle.pg_outcomes.specs.declared.resting.Rests.{Rests}
+use Rattle.pg_outcomes.specs.Resting.{IsWitnessedUnder, RestsOn, RestsAmongKept}
 use Rattle.pg_outcomes.proofs.Meaning.{got_last, take_front, same_witness}
 
 pub rests_among_kept : WitnessedAmongKept → RestsAmongKept
@@ -54,3 +56,21 @@ fewer_witness law head fewer events n e ws among le h = same_witness (with_rules
 
     good : failing_event (with_rules head fewer) all n shown ≡ None
     good = sym (ap (option_and_then (failing_event (with_rules head fewer) all n)) there) ∙ law head fewer among all n here
+
+-- ---- there is one answer
+
+same_may : (P : Type 0) (a b : Bool) → (a ≡ true) ↔ P → (b ≡ true) ↔ P → a ≡ b
+same_may P true true f g = refl
+same_may P false false f g = refl
+same_may P true false f g = absurd (false≢true (g.1 (f.0 refl)))
+same_may P false true f g = absurd (false≢true (f.1 (g.0 refl)))
+
+pub one_rests : (head : Head) (events : List Event) (n : ℕ) (e : Event) (x y : Rests) → RestsOn head events n e x → RestsOn head events n e y → x ≡ y
+one_rests head events n e x y h k =
+    let translations : x.fault_translations ≡ y.fault_translations = same_may _ x.fault_translations y.fault_translations h.translations k.translations in
+    let globals : x.fault_globals ≡ y.fault_globals = same_may _ x.fault_globals y.fault_globals h.globals k.globals in
+    let structures : x.fault_structures ≡ y.fault_structures = same_may _ x.fault_structures y.fault_structures h.structures k.structures in
+    let invlpg : x.invlpg_structures ≡ y.invlpg_structures = same_may _ x.invlpg_structures y.invlpg_structures h.invlpg k.invlpg in
+    let invpcid : x.invpcid_structures ≡ y.invpcid_structures = same_may _ x.invpcid_structures y.invpcid_structures h.invpcid k.invpcid in
+    let together : x.together ≡ y.together = same_may _ x.together y.together h.together k.together in
+    cc
