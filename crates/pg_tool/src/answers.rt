@@ -121,9 +121,9 @@ fn tell_failure<E: Sink>(errors: &mut E, format: Format, answer: &Result<Answer,
 }
 
 /// Answers a question of the record with one order on `input`, whose processors are held to these
-/// rules, and writes the answer to `output` in this form, or to `errors` why there is none. So many
-/// checkers judge, whatever the form is. It gives the exit status: 0 yes, or shown, 1 no, 2 refused,
-/// 3 memory or a thread.
+/// rules, and writes the answer to `output` in this form, or to `errors` why there is none. So
+/// many checkers judge, whatever the form is. It gives the exit status: 0 yes, or shown, 1 no,
+/// 2 refused, 3 memory or a thread.
 pub(crate) fn answer<T: AllocGlobal + Threads + Wait + Sync, R: Source, O: Sink, E: Sink>(
     rt: &T,
     checkers: Checkers,
