@@ -40,8 +40,8 @@ impl Rules {
     /// All rules: a processor of Intel's manual.
     pub const ALL: Rules = Rules(31);
 
-    /// What AMD's manual promises, as far as memory goes (volume 2, section 5.5): all but what a page
-    /// fault drops.
+    /// What AMD's manual promises, as far as memory goes (volume 2, section 5.5): all but what a
+    /// page fault drops.
     pub const AMD: Rules = Rules(24);
 
     /// None of those that can be left out.

@@ -1,5 +1,5 @@
 -- What the words of each canonical line say.
-use Rattle.std.proofs.Common.{◌≡◌, ◌∙◌, ◌≢◌, ◌<◌, ◌≤◌, ◌%◌, ◌^◌, ◌/◌, ◌||◌, ℕ, zero, suc, Bool, true, false, not, [], ◌∷◌, Option, Some, None, length, refl, ap, arith, eqb, lit<}
+use Rattle.std.proofs.Common.{◌≡◌, ◌∙◌, ◌≢◌, ◌<◌, ◌≤◌, ◌%◌, ◌^◌, ◌/◌, ◌||◌, ℕ, zero, suc, Bool, true, false, not, [], ◌∷◌, Option, Some, None, length, refl, ap, sym, arith, eqb, lit<}
 use Rattle.std.specs.Prelude.{Result, Ok, Err, if◌then◌else◌, nat_lt, ◌&&◌, codes}
 use Rattle.std.proofs.Math.Nat.{pow-le-pow_right}
 use Rattle.std.proofs.lemmas.Bool.{le-leb, lt-ltb, eqb-true, eqb-false}

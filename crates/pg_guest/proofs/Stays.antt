@@ -96,7 +96,7 @@ table_stays head es e p key kept sound spared = record {
       let early : w ≤ length es = h.link.order in
       let more : length (es ++ e ∷ []) ≡ length es + 1 = length_push es e in
       let word : word_at (es ++ e ∷ []) la at w ≡ word_at es la at w = word_longer es (e ∷ []) la at w early in
-      let spared2 : (processor_of e == p && takes_structure key.pcid la at.level (control_at head es p (length es)) e) ≡ false =
+      let spared2 : (processor_of e == p && takes_structure head.cfg.rules key.pcid la at.level (control_at head es p (length es)) e) ≡ false =
       ap (λ k. processor_of e == p && must_drop_structure head.cfg.rules (control_at head es p (length es)) e k) (key_is key at.level la h.level_is matches) ∙ spared in
       record {
         link = record {

@@ -17,7 +17,8 @@ use Rattle.pg_span_run.specs.Orders.{Spanned}
 -- whether an event, with these control registers before it, must drop each translation of a linear
 -- address under a PCID that is not global, and each paging-structure-cache entry of the address
 -- under the PCID. A translation by a page of 4 KB and the entry of level 2 say it of all: what must
--- drop the one must also drop those by larger pages, and what must drop the other those of each level
+-- drop the one must also drop those by larger pages, and what must drop the other those of each
+-- level
 abbrev pub drops_page : Rules → Control → ℕ → ℕ → Event → Bool
 drops_page rules c pcid la e =
     must_drop_translation rules c e (translation_key pcid 12 false la)

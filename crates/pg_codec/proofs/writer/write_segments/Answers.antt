@@ -1,4 +1,4 @@
-use Rattle.std.proofs.Common.{◌≡◌, ℕ, ◌<◌, length, ap, rules}
+use Rattle.std.proofs.Common.{◌<◌, length, ap, rules}
 use Rattle.std.proofs.lemmas.Result.{err_from_is_err_and}
 use Rattle.pg_event.specs.Heads.{Head}
 use Rattle.pg_codec.proofs.Segments.{cut_on, cut_fails, cut_shorter, cut_fit}

@@ -1,4 +1,4 @@
-use Rattle.std.proofs.Common.{ℕ, ◌+◌, ◌≤◌, length}
+use Rattle.std.proofs.Common.{◌+◌, ◌≤◌, length}
 use Rattle.pg_codec.specs.Writing.{FitVersion}
 use Rattle.pg_codec.proofs.Segments.{IsSegmenting}
 use Rattle.pg_codec.proofs.writer.write_segments.Given as goal

@@ -1,6 +1,7 @@
 use Rattle.std.proofs.Common.{◌≡◌, ◌+◌, ◌<◌, ◌≤◌, ◌^◌, ℕ, [], List, length, get_or, max, refl, sym, ap, subst, ◌∙◌, arith, Some, Result, Ok, Err, Bool}
 use Rattle.std.specs.Prelude.{IfOk, IsTrue, slice_get}
 use Rattle.std.proofs.lemmas.Option.{slice_get-get_or}
+use Rattle.pg_entry.specs.declared.Rules.{Rules}
 use Rattle.pg_event.specs.declared.control.Control.{Control}
 use Rattle.pg_event.specs.declared.event.Event.{Event}
 use Rattle.pg_event.specs.Form.{processor_of}
@@ -10,7 +11,7 @@ use Rattle.pg_machine.proofs.Bounds.{root-controlled}
 use Rattle.pg_span_run.specs.Orders.{Spanned, ended_before}
 use Rattle.pg_span_refute.specs.declared.caches.Caches.{Caches}
 use Rattle.pg_span_refute.specs.declared.words.Words.{Words}
-use Rattle.pg_span_refute.specs.Caches.{Known, Grows, IsNotGiven, known_of}
+use Rattle.pg_span_refute.specs.Caches.{Known, Grows, IsLeft, IsNotGiven, known_of}
 use Rattle.pg_span_refute.specs.Witness.{HasNoWitness, MayHaveCached}
 use Rattle.pg_span_refute.specs.Words.{AreWordsOf}
 use Rattle.pg_span_refute.proofs.Witness.{at_start, on, over, none_at}
@@ -44,6 +45,7 @@ loop-next-preserved c =
     let there : slice_get s.events n ≡ Some e =
     slice_get-get_or s.events n e within ∙ ap Some (sym (c.index-events-next.is ∙ ap (λ (xs : List Event). get_or xs n e) c.events-events.ensures.events)) in
     let m : c.header.inside.cfg.m ≡ s.head.cfg.m = ap (λ (h : Head). h.cfg.m) (c.header.view_is ∙ c.header-header.ensures.header) in
+    let held : c.header.inside.cfg.rules ≡ s.head.cfg.rules = ap (λ (h : Head). h.cfg.rules) (c.header.view_is ∙ c.header-header.ensures.header) in
     let low : 36 ≤ s.head.cfg.m = c.header-header.ensures.head.low in
     let high : s.head.cfg.m ≤ 52 = c.header-header.ensures.head.high in
     elim c.if-processor_of-p.branch [
@@ -60,7 +62,7 @@ loop-next-preserved c =
           (root-controlled s.head.cfg.m (processor_of e) filled.control e (omega (arith, low)) high (subst (λ (d : Control). d.root < 2 ^ 52) (sym grows.control) c.loop-next.invariant.root)) in
           let later_on : MayHaveCached s c.args.edges.now p la (n + 1) w.max-ended.result left =
           on s la filled _ (w.in_ok-fill.ensures.filled w.if-not-branch.false) w.max-ended.result e before left there mine c.loop-next.invariant.may grows
-          w.pass.ensures.left control later in
+          (subst (λ (r : Rules). IsLeft r la e filled left) held w.pass.ensures.left) control later in
           record {
             words = subst (λ (v : Words). AreWordsOf s.events v.words.items) (sym w.words-is) w.in_ok-fill.ensures.words;
             root = subst (λ (v : Caches). v.control.root < 2 ^ 52) (sym w.caches-is) root;
