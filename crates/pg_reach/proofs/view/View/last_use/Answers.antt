@@ -25,7 +25,7 @@ use Rattle.pg_reach.proofs.view.View.last_use.Goals as goal
 use Rattle.pg_reach.proofs.view.View.last_use.Goals.{After-translation_end, After-latest_of}
 
 pub translation_end-requires : goal.translation_end-requires
-translation_end-requires c = subst IsPaged (sym c.classify-kind.ensures.kind ∙ c.in-Leaf.is) (kind_paged _ c.args.level c.args.entry.0)
+translation_end-requires c = subst IsPaged (sym c.classify-kind.ensures.kind ∙ c.in-Leaf.is) (kind_paged c.behind-self.inside.cfg c.args.level c.args.entry.0)
 
 -- what was read is a leaf
 leaf_there : (c : After-translation_end) → kind_of c.args.self.now.run.head.cfg c.args.level c.args.entry.0 ≡ kinds.Leaf c.in-Leaf.frame c.in-Leaf.shift c.in-Leaf.global_bit
