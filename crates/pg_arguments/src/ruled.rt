@@ -95,7 +95,7 @@ fn cut(text: &[u8]) -> (&[u8], Option<&[u8]>)
 
 /// The rules after all changes that words between commas say.
 fn changed_all(rules: Rules, words: Option<&[u8]>) -> Option<Rules>
-    ensures { result ≡ changed_all (pieces_behind (option_copied words)) rules }
+    ensures { result ≡ changed_all (pieces_behind (option_copied words.entry)) rules }
 {
     let Some(text) = words else {
         return Some(rules);

@@ -1,14 +1,19 @@
 -- Events that are kept in brief, as more of them are kept or some are forgotten.
-use Rattle.std.proofs.Common.{◌≡◌, ℕ, zero, suc, ◌+◌, ◌-◌, ◌<◌, ◌≤◌, ◌^◌, ◌==◌, Bool, true, false, nat_lt, List, [], ◌∷◌, ◌++◌, length, length-append, take, drop, get_or, filter, Option, Some, None, IfSome, refl, ap, sym, ◌∙◌, subst, arith, cond, inl, inr}
+use Rattle.std.proofs.Common.{◌≡◌, ℕ, zero, suc, ◌+◌, ◌-◌, ◌<◌, ◌≤◌, ◌^◌, ◌==◌, Bool, true, false, not, nat_lt, List, [], ◌∷◌, ◌++◌, length, length-append, replicate, take, drop, get_or, filter, Option, Some, None, IfSome, refl, ap, sym, ◌∙◌, subst, arith, cond, inl, inr}
 use Rattle.std.specs.Prelude.{slice_get}
 use Rattle.std.specs.Option.{unwrap_or, option_or}
 use Rattle.std.proofs.lemmas.Bool.{eq-eqb, eqb-true, cases_Bool, cases_lt, false_from_ne_true, false≢true, lt-ltb, ltb-true}
 use Rattle.std.proofs.Math.ListN.{drop_of_length-le}
-use Rattle.std.proofs.lemmas.List.{length-take, take-append-drop, drop_more}
+use Rattle.std.proofs.lemmas.List.{length-take, length-take-le, take-append-drop, drop_more, replicate_more}
 use Rattle.std.proofs.lemmas.Option.{slice_get_within, slice_get_past, slice_get-get_or}
 use Rattle.pg_event.specs.declared.event.Event.{Event}
 use Rattle.pg_event.specs.declared.event.Event.TheVariants.{Write, Access, Assist, MovCr3, Invlpg, Invpcid, MovCr4Pge}
-use Rattle.pg_event.specs.Heads.{Head}
+use Rattle.pg_event.specs.declared.event.Malformed.TheVariants as forms
+use Rattle.pg_entry.specs.declared.Rules.{Rules}
+use Rattle.pg_event.specs.Heads.{Head, with_rules}
+use Rattle.pg_event.specs.Form.{broken_rule}
+use Rattle.pg_event.specs.Spelling.{IsHead, Recorded}
+use Rattle.pg_event.proofs.FewerRules.{same_form}
 use Rattle.pg_event.specs.Values.{written, mem_at}
 use Rattle.pg_timeline.specs.Keyed.{Keyed}
 use Rattle.pg_moment.specs.Versions.{value_at}
@@ -17,13 +22,17 @@ use Rattle.pg_inval.proofs.AnyFrom.{any_from-passes}
 use Rattle.pg_chain.specs.declared.past.Past.{Past}
 use Rattle.pg_chain.specs.Standing.{IsPast}
 use Rattle.pg_chain.proofs.Notes.{IsPast-answered}
+use Rattle.pg_check.specs.Kept.{AreWellFormed}
+use Rattle.pg_check.proofs.Known.{AreWellFormed-append}
+use Rattle.pg_check.proofs.Windows.{well_between}
 use Rattle.pg_search.specs.Placeholders.{with_placeholder}
 use Rattle.pg_search.specs.Changes.{idle}
 use Rattle.pg_search.specs.Writers.{writes, writes_some, is_written, IsWriter}
 use Rattle.pg_search.specs.Seen.{IsSeen}
-use Rattle.pg_search.specs.Briefs.{event_by, IsLeft, pair_at, event_of, brief_at, event_with_number, events_from, ArePlaced, Extends, IsKept}
+use Rattle.pg_search.specs.Briefs.{event_with, event_by, IsLeft, pair_at, event_of, brief_at, event_with_number, events_from, ArePlaced, Extends, IsKept}
 use Rattle.pg_search.specs.declared.brief.Brief.{Brief}
 use Rattle.pg_search.specs.declared.brief.Pair.{Pair}
+use Rattle.pg_search.specs.declared.brief.Sort.{Sort}
 use Rattle.pg_search.specs.declared.brief.Sort.TheVariants as sorts
 
 -- ---- lists of events
@@ -241,6 +250,7 @@ still p q head ps qs bs cs n kept longer briefs now =
     same_events p.versions q.versions ps qs bs cs n n longer kept.placed (λ k lt. ap (λ (xs : List Brief). brief_at xs k) briefs) (λ w a le. now.versions.values w a ∙ sym (kept.seen.stands.versions.values w a)) in (
       record {
         seen = subst (λ (es : List Event). IsSeen head es q) (sym same) (record { settings = kept.seen.settings; stands = now; count = kept.seen.count });
+        well = subst (λ (es : List Event). AreWellFormed head es) (sym same) kept.well;
         placed = placed_wider (length ps) (length qs) 0 0 n n cs (pairs_count ps qs longer) (omega arith) (omega arith) (subst (ArePlaced (length ps) 0 n) (sym briefs) kept.placed);
       },
       same,
@@ -255,6 +265,18 @@ no_more ps = record { more = []; is = sym (nil_behind ps) }
     nil_behind [] = refl
     nil_behind (x ∷ xs) = ap (λ ys. x ∷ ys) (nil_behind xs)
 
+idle_well : (head : Head) → IsHead head → broken_rule head idle ≡ None
+idle_well head is = ap (λ (q : Bool). cond (not q) (Some forms.Processor) None) (lt-ltb 0 (length head.processors) (omega (arith, is.some)))
+
+bare_well : (head : Head) (e : Event) → broken_rule head e ≡ None → broken_rule head (with_placeholder e) ≡ None
+bare_well head (Write p addr value) h = h
+bare_well head (Access p flags la outcome moments) h = h
+bare_well head (Assist p flags la word moments) h = h
+bare_well head (MovCr3 p operand) h = h
+bare_well head (Invlpg p la) h = h
+bare_well head (Invpcid p kind pcid la) h = h
+bare_well head (MovCr4Pge p on) h = h
+
 pub one_idle : (p : Past) (head : Head) (ps : List Pair) (bs : List Brief) (n m : ℕ) → IsKept head p ps bs n → m ≡ n + 1 → m < 2 ^ 32 →
     IsKept head p ps bs m × (events_from p.versions ps bs 0 m ≡ events_from p.versions ps bs 0 n ++ idle ∷ [])
 one_idle p head ps bs n m kept next room =
@@ -266,16 +288,17 @@ one_idle p head ps bs n m kept next room =
       record {
         seen = subst (λ (es : List Event). IsSeen head es p) (sym here)
             (record { settings = kept.seen.settings; stands = IsPast-answered p head before idle refl kept.seen.stands; count = omega (arith, room, next, events_count p.versions ps bs 0 n, length-append before (idle ∷ [])) });
+        well = subst (λ (es : List Event). AreWellFormed head es) (sym here) (AreWellFormed-append head before (idle ∷ []) kept.well (idle_well head kept.seen.settings, tt));
         placed = placed_wider (length ps) (length ps) 0 0 n m bs (omega arith) (omega arith) (omega (arith, next)) kept.placed;
       },
       here,
     )
 
-pub one_more : (p q : Past) (head : Head) (ps qs : List Pair) (bs cs : List Brief) (n m : ℕ) (b : Brief) (x : Pair) (e : Event) → IsKept head p ps bs n → Extends ps qs → cs ≡ bs ++ b ∷ [] → m ≡ n + 1 → b.number ≡ n →
+pub one_more : (p q : Past) (head : Head) (ps qs : List Pair) (bs cs : List Brief) (n m : ℕ) (b : Brief) (x : Pair) (e : Event) → IsKept head p ps bs n → broken_rule head e ≡ None → Extends ps qs → cs ≡ bs ++ b ∷ [] → m ≡ n + 1 → b.number ≡ n →
     IsPast q head (events_from p.versions ps bs 0 n ++ with_placeholder e ∷ []) → m < 2 ^ 32 → slice_get qs b.place ≡ Some x →
     ((left : ℕ) → IsLeft e x.first left → event_by left b x ≡ with_placeholder e) →
     IsKept head q qs cs m × (events_from q.versions qs cs 0 m ≡ events_from p.versions ps bs 0 n ++ with_placeholder e ∷ [])
-one_more p q head ps qs bs cs n m b x e kept longer briefs next number now room there is =
+one_more p q head ps qs bs cs n m b x e kept form longer briefs next number now room there is =
     let before : List Event = events_from p.versions ps bs 0 n in
     let count : length before ≡ n = events_count p.versions ps bs 0 n in
     let values : (w a : ℕ) → w ≤ n → value_at q.versions w a ≡ value_at p.versions w a = λ w a le.
@@ -300,6 +323,7 @@ one_more p q head ps qs bs cs n m b x e kept longer briefs next number now room 
     let placed : ArePlaced (length qs) 0 m (bs ++ b ∷ []) = subst (λ k. ArePlaced (length qs) 0 k (bs ++ b ∷ [])) end (placed_more (length qs) 0 bs b wider (omega arith) (slice_get_within qs b.place x there)) in (
       record {
         seen = subst (λ (es : List Event). IsSeen head es q) (sym here) (record { settings = kept.seen.settings; stands = now; count = omega (arith, room, next, count, length-append before (with_placeholder e ∷ [])) });
+        well = subst (λ (es : List Event). AreWellFormed head es) (sym here) (AreWellFormed-append head before (with_placeholder e ∷ []) kept.well (bare_well head e form, tt));
         placed = subst (ArePlaced (length qs) 0 m) (sym briefs) placed;
       },
       here,
@@ -322,6 +346,7 @@ front p q head ps bs cs n k kept low briefs now =
     same_events p.versions q.versions ps ps bs cs n k (no_more ps) kept.placed earlier values ∙ sym (events_take p.versions ps bs 0 n k low) in (
       record {
         seen = subst (λ (es : List Event). IsSeen head es q) (sym here) (record { settings = kept.seen.settings; stands = now; count = omega (arith, kept.seen.count, length-take k all) });
+        well = subst (λ (es : List Event). AreWellFormed head es) (sym here) (well_between head all 0 k kept.well);
         placed = subst (ArePlaced (length ps) 0 k) (sym briefs) (placed_below (length ps) 0 n k bs kept.placed);
       },
       here,
@@ -448,3 +473,155 @@ writer_is v ps bs n a moment k last all h =
     told : (o : Option ℕ) → IfSome o (λ m. (m < moment) × (writes_some a (slice_get (events_from v ps bs 0 n) m) ≡ true)) → is_written (events_from v ps bs 0 n) a (behind o) moment ≡ false → IsWriter (events_from v ps bs 0 n) a moment o
     told None some none = none
     told (Some m) some none = (some.0, some.1, none)
+
+-- ---- the same events under other rules
+
+none_below : (n low high : ℕ) (bs : List Brief) (k : ℕ) → ArePlaced n low high bs → k < low → brief_at bs k ≡ None
+none_below n low high [] k h lt = refl
+none_below n low high (x ∷ xs) k h lt =
+    ap (λ (q : Bool). cond q (Some x) (brief_at xs k)) (other x.number k (λ same. absurd (omega (arith, same, h.1, lt)))) ∙ none_below n (x.number + 1) high xs k h.3 (omega (arith, lt, h.1))
+
+idle_run : (v : Keyed ℕ ℕ) (ps : List Pair) (bs : List Brief) (i d : ℕ) → ((k : ℕ) → i ≤ k → k < i + d → brief_at bs k ≡ None) → events_from v ps bs i d ≡ replicate d idle
+idle_run v ps bs i zero none = refl
+idle_run v ps bs i (suc d) none =
+    let count : d + 1 ≡ suc d = omega arith in
+    events_more v ps bs i d ∙ ap (λ o. events_from v ps bs i d ++ event_with_number v ps (i + d) o ∷ []) (none (i + d) (omega arith) (omega arith))
+    ∙ ap (λ (es : List Event). es ++ idle ∷ []) (idle_run v ps bs i d (λ k low high. none k low (omega (arith, high)))) ∙ replicate_more d idle ∙ ap (λ k. replicate k idle) count
+
+events_split : (v : Keyed ℕ ℕ) (ps : List Pair) (bs : List Brief) (i n d : ℕ) → events_from v ps bs i (n + d) ≡ events_from v ps bs i n ++ events_from v ps bs (i + n) d
+events_split v ps bs i zero d =
+    let at : i ≡ i + 0 = omega arith in
+    ap (λ k. events_from v ps bs k d) at
+events_split v ps bs i (suc n) d =
+    let at : i + 1 + n ≡ i + suc n = omega arith in
+    ap (λ es. event_with_number v ps i (brief_at bs i) ∷ es) (events_split v ps bs (i + 1) n d ∙ ap (λ k. events_from v ps bs (i + 1) n ++ events_from v ps bs k d) at)
+
+-- between two numbers nothing is kept
+stretch : (v : Keyed ℕ ℕ) (ps : List Pair) (bs : List Brief) (n m count : ℕ) → n ≤ m → m ≤ count → ((k : ℕ) → n ≤ k → k < m → brief_at bs k ≡ None) →
+    take n (events_from v ps bs 0 count) ++ replicate (m - n) idle ≡ take m (events_from v ps bs 0 count)
+stretch v ps bs n m count low high none =
+    let behind_it : n + (m - n) ≡ m = omega (arith, low) in
+    ap (λ (es : List Event). es ++ replicate (m - n) idle) (events_take v ps bs 0 count n (omega (arith, low, high)))
+    ∙ ap (λ (es : List Event). events_from v ps bs 0 n ++ es) (sym (idle_run v ps bs (0 + n) (m - n) (λ k from to. none k (omega (arith, from)) (omega (arith, to, low)))))
+    ∙ sym (events_split v ps bs 0 n (m - n)) ∙ ap (events_from v ps bs 0) behind_it ∙ sym (events_take v ps bs 0 count m high)
+
+bare : (left : ℕ) (b : Brief) (x : Pair) → with_placeholder (event_by left b x) ≡ event_by left b x
+bare left b x = bare_sort b.sort
+  where
+    bare_sort : (sort : Sort) → with_placeholder (event_with left sort b.p b.flags x.first x.second) ≡ event_with left sort b.p b.flags x.first x.second
+    bare_sort sorts.Write = refl
+    bare_sort sorts.Answer = refl
+    bare_sort sorts.Fault = refl
+    bare_sort sorts.Assist = refl
+    bare_sort sorts.MovCr3 = refl
+    bare_sort sorts.Invlpg = refl
+    bare_sort sorts.Invpcid = refl
+    bare_sort sorts.MovCr4Pge = refl
+
+-- what holds of each event
+well_there : (head : Head) (es : List Event) (k : ℕ) (e : Event) → AreWellFormed head es → slice_get es k ≡ Some e → broken_rule head e ≡ None
+well_there head [] k e well at = absurd (cc)
+well_there head (x ∷ xs) zero e well at = ap (broken_rule head) (same_item x e at) ∙ well.0
+  where
+    same_item : (x y : Event) → Some x ≡ Some y → y ≡ x
+    same_item x y h = cc
+well_there head (x ∷ xs) (suc k) e well at = well_there head xs k e well.1 at
+
+-- of the first so many of what is kept, the events up to the last are kept under the rules
+pub record IsCopied (v : Keyed ℕ ℕ) (head : Head) (rules : Rules) (ps : List Pair) (bs : List Brief) (count i : ℕ) (held : Recorded) : Type 0 where
+  pub next : ℕ
+  pub within : next ≤ count
+  pub is : held ≡ record { head = with_rules head rules; events = take next (events_from v ps bs 0 count) }
+  pub placed : ArePlaced (length ps) next count (drop i bs)
+  pub left : (k : ℕ) → next ≤ k → brief_at (drop i bs) k ≡ brief_at bs k
+
+pub copied_none : (v : Keyed ℕ ℕ) (head : Head) (rules : Rules) (ps : List Pair) (bs : List Brief) (count : ℕ) (held : Recorded) → ArePlaced (length ps) 0 count bs → held ≡ record { head = with_rules head rules; events = [] } →
+    IsCopied v head rules ps bs count 0 held
+copied_none v head rules ps bs count held placed is = record { next = 0; within = omega arith; is = is; placed = placed; left = λ k low. refl }
+
+copied_count : (v : Keyed ℕ ℕ) (head : Head) (rules : Rules) (ps : List Pair) (bs : List Brief) (count i : ℕ) (held : Recorded) → (h : IsCopied v head rules ps bs count i held) → length held.events ≡ h.next
+copied_count v head rules ps bs count i held h =
+    ap (λ (r : Recorded). length r.events) h.is ∙ length-take-le h.next (events_from v ps bs 0 count) (omega (arith, h.within, events_count v ps bs 0 count))
+
+-- up to a number that nothing which is kept comes before
+pub copied_up_to : (v : Keyed ℕ ℕ) (head : Head) (rules : Rules) (ps : List Pair) (bs : List Brief) (count i : ℕ) (held : Recorded) (m : ℕ) → (h : IsCopied v head rules ps bs count i held) → h.next ≤ m → m ≤ count →
+    ((k : ℕ) → h.next ≤ k → k < m → brief_at (drop i bs) k ≡ None) →
+    record { head = held.head; events = held.events ++ replicate (m - length held.events) idle } ≡ (record { head = with_rules head rules; events = take m (events_from v ps bs 0 count) } : Recorded)
+copied_up_to v head rules ps bs count i held m h low high none =
+    let all : List Event = events_from v ps bs 0 count in
+    let same : held.events ++ replicate (m - length held.events) idle ≡ take m all =
+    ap (λ k. held.events ++ replicate (m - k) idle) (copied_count v head rules ps bs count i held h) ∙ ap (λ (r : Recorded). r.events ++ replicate (m - h.next) idle) h.is
+    ∙ stretch v ps bs h.next m count low high (λ k from to. sym (h.left k from) ∙ none k from to) in
+    ap (λ (es : List Event). record { head = held.head; events = es }) same ∙ ap (λ (r : Recorded). record { head = r.head; events = take m all }) h.is
+
+pub next_there : (bs xs : List Brief) (i : ℕ) (d : Brief) → xs ≡ bs → i < length xs → drop i bs ≡ get_or xs i d ∷ drop (i + 1) bs
+next_there bs xs i d same within =
+    ap (λ (ys : List Brief). drop i ys) (sym same) ∙ drop_more xs i d within ∙ ap (λ (ys : List Brief). get_or xs i d ∷ drop (i + 1) ys) same
+
+-- the next of what is kept
+pub record IsNextBrief (v : Keyed ℕ ℕ) (head : Head) (rules : Rules) (ps : List Pair) (bs : List Brief) (count i : ℕ) (held : Recorded) (b : Brief) : Type 0 where
+  pub low : length held.events ≤ b.number
+  pub high : b.number < count
+  pub count_is : length (take b.number (events_from v ps bs 0 count)) ≡ b.number
+  pub passed : record { head = held.head; events = held.events ++ replicate (b.number - length held.events) idle } ≡ (record { head = with_rules head rules; events = take b.number (events_from v ps bs 0 count) } : Recorded)
+
+pub next_brief : (v : Keyed ℕ ℕ) (head : Head) (rules : Rules) (ps : List Pair) (bs : List Brief) (count i : ℕ) (held : Recorded) (b : Brief) → IsCopied v head rules ps bs count i held → drop i bs ≡ b ∷ drop (i + 1) bs →
+    IsNextBrief v head rules ps bs count i held b
+next_brief v head rules ps bs count i held b h at =
+    let rest : List Brief = drop (i + 1) bs in
+    let placed : ArePlaced (length ps) h.next count (b ∷ rest) = subst (λ (ys : List Brief). ArePlaced (length ps) h.next count ys) at h.placed in
+    let none : (k : ℕ) → h.next ≤ k → k < b.number → brief_at (drop i bs) k ≡ None = λ k from to.
+    ap (λ (ys : List Brief). brief_at ys k) at ∙ ap (λ (q : Bool). cond q (Some b) (brief_at rest k)) (other b.number k (λ same. absurd (omega (arith, same, to))))
+    ∙ none_below (length ps) (b.number + 1) count rest k placed.3 (omega (arith, to)) in
+    let all : List Event = events_from v ps bs 0 count in
+    record {
+      low = omega (arith, placed.1, copied_count v head rules ps bs count i held h);
+      high = placed.2;
+      count_is = length-take-le b.number all (omega (arith, placed.2, events_count v ps bs 0 count));
+      passed = copied_up_to v head rules ps bs count i held b.number h placed.1 (omega (arith, placed.2)) none;
+    }
+
+next_at : (v : Keyed ℕ ℕ) (head : Head) (rules : Rules) (ps : List Pair) (bs : List Brief) (count i : ℕ) (held : Recorded) (b : Brief) → IsCopied v head rules ps bs count i held → drop i bs ≡ b ∷ drop (i + 1) bs → brief_at bs b.number ≡ Some b
+next_at v head rules ps bs count i held b h at =
+    let placed : ArePlaced (length ps) h.next count (b ∷ drop (i + 1) bs) = subst (λ (ys : List Brief). ArePlaced (length ps) h.next count ys) at h.placed in
+    sym (h.left b.number placed.1) ∙ ap (λ (ys : List Brief). brief_at ys b.number) at ∙ ap (λ (q : Bool). cond q (Some b) (brief_at (drop (i + 1) bs) b.number)) (eq-eqb b.number b.number refl)
+
+-- the event is well formed under the rules too
+pub next_well : (v : Keyed ℕ ℕ) (head : Head) (rules : Rules) (ps : List Pair) (bs : List Brief) (count i : ℕ) (held : Recorded) (b : Brief) (e : Event) → IsCopied v head rules ps bs count i held → drop i bs ≡ b ∷ drop (i + 1) bs →
+    AreWellFormed head (events_from v ps bs 0 count) → e ≡ event_of v ps b.number b → broken_rule (with_rules head rules) e ≡ None
+next_well v head rules ps bs count i held b e h at well is =
+    let here : 0 + b.number ≡ b.number = omega arith in
+    let there : slice_get (events_from v ps bs 0 count) b.number ≡ Some e =
+    event_there v ps bs 0 count b.number (next_brief v head rules ps bs count i held b h at).high ∙ ap (λ j. Some (event_with_number v ps j (brief_at bs j))) here
+    ∙ ap (λ o. Some (event_with_number v ps b.number o)) (next_at v head rules ps bs count i held b h at) ∙ ap Some (sym is) in
+    same_form head rules e ∙ well_there head (events_from v ps bs 0 count) b.number e well there
+
+pub copied_more : (v : Keyed ℕ ℕ) (head : Head) (rules : Rules) (ps : List Pair) (bs : List Brief) (count i : ℕ) (held now : Recorded) (b : Brief) (e : Event) → IsCopied v head rules ps bs count i held → drop i bs ≡ b ∷ drop (i + 1) bs →
+    e ≡ event_of v ps b.number b → now ≡ record { head = with_rules head rules; events = take b.number (events_from v ps bs 0 count) ++ with_placeholder e ∷ [] } → IsCopied v head rules ps bs count (i + 1) now
+copied_more v head rules ps bs count i held now b e h at is now_is =
+    let all : List Event = events_from v ps bs 0 count in
+    let rest : List Brief = drop (i + 1) bs in
+    let placed : ArePlaced (length ps) h.next count (b ∷ rest) = subst (λ (ys : List Brief). ArePlaced (length ps) h.next count ys) at h.placed in
+    let n : ℕ = b.number in
+    let here : 0 + n ≡ n = omega arith in
+    let count_is : n + 1 ≡ suc n = omega arith in
+    let event : with_placeholder e ≡ event_of v ps n b =
+    ap with_placeholder is ∙ bare (value_at v (n + 1) (pair_at ps b.place).first) b (pair_at ps b.place) in
+    let more : take n all ++ with_placeholder e ∷ [] ≡ take (n + 1) all =
+    ap (λ (x : Event). take n all ++ x ∷ []) event ∙ ap (λ (es : List Event). es ++ event_of v ps n b ∷ []) (events_take v ps bs 0 count n (omega (arith, placed.2)))
+    ∙ sym (ap (events_from v ps bs 0) count_is ∙ events_more v ps bs 0 n ∙ ap (λ j. events_from v ps bs 0 n ++ event_with_number v ps j (brief_at bs j) ∷ []) here
+    ∙ ap (λ o. events_from v ps bs 0 n ++ event_with_number v ps n o ∷ []) (next_at v head rules ps bs count i held b h at))
+    ∙ sym (events_take v ps bs 0 count (n + 1) (omega (arith, placed.2))) in
+    record {
+      next = n + 1;
+      within = omega (arith, placed.2);
+      is = now_is ∙ ap (λ (es : List Event). record { head = with_rules head rules; events = es }) more;
+      placed = placed.3;
+      left = λ k low. sym (ap (λ (ys : List Brief). brief_at ys k) at ∙ ap (λ (q : Bool). cond q (Some b) (brief_at rest k)) (other n k (λ same. absurd (omega (arith, same, low))))) ∙ h.left k (omega (arith, low, placed.1));
+    }
+
+pub copied_all : (v : Keyed ℕ ℕ) (head : Head) (rules : Rules) (ps : List Pair) (bs : List Brief) (count i : ℕ) (held : Recorded) → IsCopied v head rules ps bs count i held → length bs ≤ i →
+    record { head = held.head; events = held.events ++ replicate (count - length held.events) idle } ≡ (record { head = with_rules head rules; events = events_from v ps bs 0 count } : Recorded)
+copied_all v head rules ps bs count i held h all =
+    copied_up_to v head rules ps bs count i held count h h.within (omega arith) (λ k from to. ap (λ (ys : List Brief). brief_at ys k) (drop_of_length-le bs all))
+    ∙ ap (λ (es : List Event). record { head = with_rules head rules; events = es }) (events_take v ps bs 0 count count (omega arith))

@@ -11,6 +11,7 @@ use Rattle.pg_event.specs.Heads.{Head}
 use Rattle.pg_timeline.specs.Keyed.{Keyed}
 use Rattle.pg_moment.specs.Versions.{value_at}
 use Rattle.pg_chain.specs.declared.past.Past.{Past}
+use Rattle.pg_check.specs.Kept.{AreWellFormed}
 use Rattle.pg_search.specs.Changes.{idle}
 use Rattle.pg_search.specs.Seen.{IsSeen}
 use Rattle.pg_search.specs.declared.brief.Brief.{Brief}
@@ -79,8 +80,9 @@ pub record Extends (old new : List Pair) : Type 0 where
   pub more : List Pair
   pub is : new ≡ old ++ more
 
--- the past is that of so many events, whose pairs are there
+-- the past is that of so many well formed events, whose pairs are there
 pub record IsKept (head : Head) (past : Past) (pairs : List Pair) (briefs : List Brief)
     (count : ℕ) : Type 0 where
   pub seen : IsSeen head (events_from past.versions pairs briefs 0 count) past
+  pub well : AreWellFormed head (events_from past.versions pairs briefs 0 count)
   pub placed : ArePlaced (length pairs) 0 count briefs

@@ -1,8 +1,8 @@
 //! The events of a run that are kept, in little room.
 
 ghost use Rattle.std.specs.Prelude.{◌≡◌, ℕ, ◌+◌, ◌-◌, ◌<◌, ◌≤◌, ◌^◌, [], ◌∷◌, ◌++◌, length, map};
-ghost use Rattle.std.specs.Prelude.{take, true, Some, None, IfOk, OnOk, OnErr, slice_get};
-ghost use Rattle.std.specs.List.{repeat};
+ghost use Rattle.std.specs.Prelude.{take, replicate, true, Some, None, IfOk, OnOk, OnErr};
+ghost use Rattle.std.specs.Prelude.{slice_get};
 ghost use Rattle.pg_event.specs.Form.{broken_rule};
 ghost use Rattle.pg_event.specs.Spelling.{IsHead, held_to};
 ghost use Rattle.pg_check.specs.Judgements.{IsRight};
@@ -227,10 +227,11 @@ impl KeptRun {
         requires { length self.old.events ≤ number }
         ensures { self.new ≡ record {
           head = self.old.head;
-          events = self.old.events ++ repeat (number - length self.old.events) (idle ∷ []);
+          events = self.old.events ++ replicate (number - length self.old.events) idle;
         } }
     {
-        for _ in self.count..number {
+        let first = self.len() as u32;
+        for _ in first..number {
             self.pass();
         }
     }

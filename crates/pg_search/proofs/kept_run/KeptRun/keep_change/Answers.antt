@@ -1,5 +1,6 @@
-use Rattle.std.proofs.Common.{◌≡◌, ◌+◌, ◌<◌, ◌^◌, List, [], ◌∷◌, ◌++◌, length, refl, Result, Ok, Err, OnErr, ap, sym, ◌∙◌, subst, arith}
+use Rattle.std.proofs.Common.{◌≡◌, ◌+◌, ◌<◌, ◌^◌, List, [], ◌∷◌, ◌++◌, length, refl, None, Result, Ok, Err, OnErr, ap, sym, ◌∙◌, subst, arith}
 use Rattle.pg_event.specs.declared.event.Event.{Event}
+use Rattle.pg_event.specs.Form.{broken_rule}
 use Rattle.pg_event.specs.Spelling.{Recorded}
 use Rattle.pg_chain.specs.Standing.{IsPast}
 use Rattle.pg_check.proofs.Grown.{walks_noted, walks_later}
@@ -92,8 +93,9 @@ more c =
     let noted : IsPast c.note_later.new.self s.header (before ++ c.with_placeholder-bared.result ∷ []) = c.in_ok-note_later.ensures.ok s.header before c.self.invariant.0.seen.stands (sym all) in
     let now : IsPast c.note_later.new.self s.header (before ++ with_placeholder e ∷ []) = subst (λ (x : Event). IsPast c.note_later.new.self s.header (before ++ x ∷ [])) c.with_placeholder-bared.ensures noted in
     let b : Brief = record c.brief_of.result.0 { place = c.in_ok-brief.field-0 } in
+    let form : broken_rule s.header e ≡ None = subst (λ (r : Recorded). broken_rule r.head e ≡ None) (sym c.self.view_is) c.requires.well in
     let items : c.push_reserved.new.self.items ≡ s.briefs.items ++ b ∷ [] = c.push_reserved.ensures.items ∙ ap (λ (bs : List Brief). bs ++ b ∷ []) c.reserve.ensures.items in
-    one_more s.past c.note_later.new.self s.header s.pairs.items c.place_of.new.pairs.items s.briefs.items c.push_reserved.new.self.items s.count (s.count + 1) b c.brief_of.result.1 e c.self.invariant.0 c.place_of.ensures.more items refl
+    one_more s.past c.note_later.new.self s.header s.pairs.items c.place_of.new.pairs.items s.briefs.items c.push_reserved.new.self.items s.count (s.count + 1) b c.brief_of.result.1 e c.self.invariant.0 form c.place_of.ensures.more items refl
     c.brief_of.ensures.number now (omega (arith, room, all)) c.in_ok-brief.ensures.there c.brief_of.ensures.event
 
 pub invariant_of-self-2 : goal.invariant_of-self-2
