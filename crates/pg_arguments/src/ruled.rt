@@ -93,15 +93,16 @@ fn cut(text: &[u8]) -> (&[u8], Option<&[u8]>)
     }
 }
 
-/// The rules after all changes that words between commas say.
-fn changed_all(rules: Rules, words: Option<&[u8]>) -> Option<Rules>
-    ensures { result ≡ changed_all (pieces_behind (option_copied words.entry)) rules }
+/// The rules after all changes that the words of a text say, between commas.
+fn changed_all(rules: Rules, text: &[u8]) -> Option<Rules>
+    ensures { result ≡ changed_all (pieces text.now) rules }
 {
-    let Some(text) = words else {
-        return Some(rules);
-    };
     let (word, rest) = cut(text);
-    changed_all(changed(rules, word)?, rest)
+    let next = changed(rules, word)?;
+    match rest {
+        Some(words) => changed_all(next, words),
+        None => Some(next),
+    }
 }
 
 /// The rules that the value of `--rules` names; all of them where none is given.
@@ -112,5 +113,9 @@ pub(crate) fn rules_asked(text: Option<&str>) -> Option<Rules>
         return Some(Rules::ALL);
     };
     let (name, rest) = cut(text.as_bytes());
-    changed_all(preset_of(name)?, rest)
+    let preset = preset_of(name)?;
+    match rest {
+        Some(words) => changed_all(preset, words),
+        None => Some(preset),
+    }
 }

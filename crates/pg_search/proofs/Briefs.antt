@@ -527,15 +527,18 @@ well_there head (x ∷ xs) zero e well at = ap (broken_rule head) (same_item x e
     same_item x y h = cc
 well_there head (x ∷ xs) (suc k) e well at = well_there head xs k e well.1 at
 
+abbrev pub with_events : Head → List Event → Recorded
+with_events head events = record { head = head; events = events }
+
 -- of the first so many of what is kept, the events up to the last are kept under the rules
 pub record IsCopied (v : Keyed ℕ ℕ) (head : Head) (rules : Rules) (ps : List Pair) (bs : List Brief) (count i : ℕ) (held : Recorded) : Type 0 where
   pub next : ℕ
   pub within : next ≤ count
-  pub is : held ≡ record { head = with_rules head rules; events = take next (events_from v ps bs 0 count) }
+  pub is : held ≡ with_events (with_rules head rules) (take next (events_from v ps bs 0 count))
   pub placed : ArePlaced (length ps) next count (drop i bs)
   pub left : (k : ℕ) → next ≤ k → brief_at (drop i bs) k ≡ brief_at bs k
 
-pub copied_none : (v : Keyed ℕ ℕ) (head : Head) (rules : Rules) (ps : List Pair) (bs : List Brief) (count : ℕ) (held : Recorded) → ArePlaced (length ps) 0 count bs → held ≡ record { head = with_rules head rules; events = [] } →
+pub copied_none : (v : Keyed ℕ ℕ) (head : Head) (rules : Rules) (ps : List Pair) (bs : List Brief) (count : ℕ) (held : Recorded) → ArePlaced (length ps) 0 count bs → held ≡ with_events (with_rules head rules) [] →
     IsCopied v head rules ps bs count 0 held
 copied_none v head rules ps bs count held placed is = record { next = 0; within = omega arith; is = is; placed = placed; left = λ k low. refl }
 
@@ -546,13 +549,13 @@ copied_count v head rules ps bs count i held h =
 -- up to a number that nothing which is kept comes before
 pub copied_up_to : (v : Keyed ℕ ℕ) (head : Head) (rules : Rules) (ps : List Pair) (bs : List Brief) (count i : ℕ) (held : Recorded) (m : ℕ) → (h : IsCopied v head rules ps bs count i held) → h.next ≤ m → m ≤ count →
     ((k : ℕ) → h.next ≤ k → k < m → brief_at (drop i bs) k ≡ None) →
-    record { head = held.head; events = held.events ++ replicate (m - length held.events) idle } ≡ (record { head = with_rules head rules; events = take m (events_from v ps bs 0 count) } : Recorded)
+    with_events held.head (held.events ++ replicate (m - length held.events) idle) ≡ with_events (with_rules head rules) (take m (events_from v ps bs 0 count))
 copied_up_to v head rules ps bs count i held m h low high none =
     let all : List Event = events_from v ps bs 0 count in
     let same : held.events ++ replicate (m - length held.events) idle ≡ take m all =
     ap (λ k. held.events ++ replicate (m - k) idle) (copied_count v head rules ps bs count i held h) ∙ ap (λ (r : Recorded). r.events ++ replicate (m - h.next) idle) h.is
     ∙ stretch v ps bs h.next m count low high (λ k from to. sym (h.left k from) ∙ none k from to) in
-    ap (λ (es : List Event). record { head = held.head; events = es }) same ∙ ap (λ (r : Recorded). record { head = r.head; events = take m all }) h.is
+    ap (with_events held.head) same ∙ ap (λ (r : Recorded). with_events r.head (take m all)) h.is
 
 pub next_there : (bs xs : List Brief) (i : ℕ) (d : Brief) → xs ≡ bs → i < length xs → drop i bs ≡ get_or xs i d ∷ drop (i + 1) bs
 next_there bs xs i d same within =
@@ -563,7 +566,7 @@ pub record IsNextBrief (v : Keyed ℕ ℕ) (head : Head) (rules : Rules) (ps : L
   pub low : length held.events ≤ b.number
   pub high : b.number < count
   pub count_is : length (take b.number (events_from v ps bs 0 count)) ≡ b.number
-  pub passed : record { head = held.head; events = held.events ++ replicate (b.number - length held.events) idle } ≡ (record { head = with_rules head rules; events = take b.number (events_from v ps bs 0 count) } : Recorded)
+  pub passed : with_events held.head (held.events ++ replicate (b.number - length held.events) idle) ≡ with_events (with_rules head rules) (take b.number (events_from v ps bs 0 count))
 
 pub next_brief : (v : Keyed ℕ ℕ) (head : Head) (rules : Rules) (ps : List Pair) (bs : List Brief) (count i : ℕ) (held : Recorded) (b : Brief) → IsCopied v head rules ps bs count i held → drop i bs ≡ b ∷ drop (i + 1) bs →
     IsNextBrief v head rules ps bs count i held b
@@ -597,7 +600,7 @@ next_well v head rules ps bs count i held b e h at well is =
     same_form head rules e ∙ well_there head (events_from v ps bs 0 count) b.number e well there
 
 pub copied_more : (v : Keyed ℕ ℕ) (head : Head) (rules : Rules) (ps : List Pair) (bs : List Brief) (count i : ℕ) (held now : Recorded) (b : Brief) (e : Event) → IsCopied v head rules ps bs count i held → drop i bs ≡ b ∷ drop (i + 1) bs →
-    e ≡ event_of v ps b.number b → now ≡ record { head = with_rules head rules; events = take b.number (events_from v ps bs 0 count) ++ with_placeholder e ∷ [] } → IsCopied v head rules ps bs count (i + 1) now
+    e ≡ event_of v ps b.number b → now ≡ with_events (with_rules head rules) (take b.number (events_from v ps bs 0 count) ++ with_placeholder e ∷ []) → IsCopied v head rules ps bs count (i + 1) now
 copied_more v head rules ps bs count i held now b e h at is now_is =
     let all : List Event = events_from v ps bs 0 count in
     let rest : List Brief = drop (i + 1) bs in
@@ -615,13 +618,13 @@ copied_more v head rules ps bs count i held now b e h at is now_is =
     record {
       next = n + 1;
       within = omega (arith, placed.2);
-      is = now_is ∙ ap (λ (es : List Event). record { head = with_rules head rules; events = es }) more;
+      is = now_is ∙ ap (with_events (with_rules head rules)) more;
       placed = placed.3;
       left = λ k low. sym (ap (λ (ys : List Brief). brief_at ys k) at ∙ ap (λ (q : Bool). cond q (Some b) (brief_at rest k)) (other n k (λ same. absurd (omega (arith, same, low))))) ∙ h.left k (omega (arith, low, placed.1));
     }
 
 pub copied_all : (v : Keyed ℕ ℕ) (head : Head) (rules : Rules) (ps : List Pair) (bs : List Brief) (count i : ℕ) (held : Recorded) → IsCopied v head rules ps bs count i held → length bs ≤ i →
-    record { head = held.head; events = held.events ++ replicate (count - length held.events) idle } ≡ (record { head = with_rules head rules; events = events_from v ps bs 0 count } : Recorded)
+    with_events held.head (held.events ++ replicate (count - length held.events) idle) ≡ with_events (with_rules head rules) (events_from v ps bs 0 count)
 copied_all v head rules ps bs count i held h all =
     copied_up_to v head rules ps bs count i held count h h.within (omega arith) (λ k from to. ap (λ (ys : List Brief). brief_at ys k) (drop_of_length-le bs all))
-    ∙ ap (λ (es : List Event). record { head = with_rules head rules; events = es }) (events_take v ps bs 0 count count (omega arith))
+    ∙ ap (with_events (with_rules head rules)) (events_take v ps bs 0 count count (omega arith))
